@@ -1,0 +1,13 @@
+pub mod Machines
+pub mod Exports
+pub mod Names
+pub mod Plan
+pub mod Layouts
+pub mod Library
+pub mod Refusals
+pub mod Shaped
+pub mod Reader
+pub mod Lookup
+pub mod Answers
+pub mod Demands
+pub mod Examples

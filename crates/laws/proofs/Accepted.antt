@@ -1,0 +1,183 @@
+-- What acceptance says of a list: its DLL name, its exports' strings and its plans.
+use Prim.Native.Nat.{ℕ, zero, suc, _+_, _*_, _≤_, _<_}
+use mathlib.Core.Path.{_≡_, refl, sym, ap, _∙_}
+use mathlib.Core.Logic.{_⊎_, inl, inr, ⊎-elim}
+use mathlib.Core.Bool.{Bool, true, false, _&&_, _||_, not}
+use mathlib.Core.Option.{Option, none, some}
+use mathlib.Core.List.{List, [], _∷_, _++_, List·Memᴰ, List·Memᴰ·cases-cons, List·Memᴰ·not-nil}
+use native.Mathlib.Omega.{arith}
+use lib.ListN.{length}
+use lib.Dec.{eqb, ltb}
+use borrow.Author.Tests.{ltb-false, eqb-false, eqb-true}
+use Rattle.wire.specs.Bytes.{Bytes, if_then_else_, u16At, u32At, part, holds}
+use Rattle.wire.proofs.Bytes.{not-false, length-part, and-first, and-next}
+use Rattle.format.specs.Machines.{known, firstMachine, nativeMachine}
+use Rattle.format.specs.Exports.{Export, firstCount, nativeCount, bothCounts, namesAt, namesLength, dllField, dllName, recordAt, fieldAt, flagsAt, offsetOf, lengthOf, absentAt, bytesAt, stringAt, isPrivate, exportAt, exportsFrom, firstExports, nativeExports}
+use Rattle.format.specs.Names.{barredDll}
+use Rattle.format.specs.Plan.{Plan, plain, deferred, refused, plan}
+use Rattle.format.specs.Library.{Options}
+use Rattle.format.specs.Refusals.{Row, row, earliest, maxCount, maxDll, maxString, machineRows, headerRows, stringRows, dllRows, rowsFrom, fieldRows, recordRows, listRows, planRows, nameRows, exportRows, acceptRows, checkExports}
+use Rattle.format.specs.Shaped.{Shaped}
+use Rattle.format.specs.declared.Checked.{Checked}
+use Rattle.format.specs.declared.Checked.the-variants.{Fine, Refused}
+use Rattle.format.proofs.Rows.{fine-row, fine-rest, fine-before, fine-after, fine-at}
+use Rattle.format.proofs.Header.{header-shaped}
+
+-- ---- a string that passes refusals 5 to 8
+
+pub record Good (limit : ℕ) (s : Bytes) : Type 0 where
+  pub some-bytes : 1 ≤ length s
+  pub few : length s ≤ limit
+  pub clear : holds 0 s ≡ false
+
+-- an optional string that is good where it is there
+pub data Fit (limit : ℕ) : Option Bytes → Type 0 where
+  fit-none : Fit limit none
+  fit-some : {s : Bytes} → Good limit s → Fit limit (some s)
+
+module _ (b : Bytes) (shape : Shaped b) (place at limit : ℕ) (required : Bool) (e : earliest (stringRows b place at limit required) ≡ Fine) where
+  pub string-within : offsetOf b at + lengthOf b at ≤ namesLength b
+  unfolding stringRows
+  string-within = ltb-false _ _ (fine-row _ _ e)
+
+  pub string-length : length (bytesAt b at) ≡ lengthOf b at
+  unfolding bytesAt
+  string-length = length-part b (namesAt b + offsetOf b at) (lengthOf b at) (omega (arith, string-within, shape .ended))
+
+  six : (if absentAt b at then required else eqb (lengthOf b at) 0) ≡ false
+  unfolding stringRows
+  six = fine-row _ _ (fine-rest _ _ e)
+
+  pub string-good : absentAt b at ≡ false → Good limit (bytesAt b at)
+  unfolding stringRows
+  string-good h =
+      let present = eqb-false (lengthOf b at) 0 (rw h at six) in
+      let below = ltb-false limit (lengthOf b at) (fine-row _ _ (fine-rest _ _ (fine-rest _ _ e))) in
+      record {
+        some-bytes = positive present;
+        few = rw string-length below;
+        clear = fine-row _ _ (fine-rest _ _ (fine-rest _ _ (fine-rest _ _ e)));
+      }
+    where
+      positive : (lengthOf b at ≡ 0 → ⊥) → 1 ≤ length (bytesAt b at)
+      positive ne = rw string-length (omega arith)
+
+  pub string-required : required ≡ true → absentAt b at ≡ false
+  string-required r = pick (absentAt b at) six
+    where
+      pick : (t : Bool) → (if t then required else eqb (lengthOf b at) 0) ≡ false → t ≡ false
+      pick true q = sym r ∙ q
+      pick false q = refl
+
+  pub string-fit : Fit limit (stringAt b at)
+  unfolding stringAt
+  string-fit = pick (absentAt b at) refl
+    where
+      pick : (t : Bool) → absentAt b at ≡ t → Fit limit (if t then none else some (bytesAt b at))
+      pick true h = fit-none
+      pick false h = fit-some (string-good h)
+
+-- ---- an export of an accepted record
+
+pub record GoodExport (e : Export) : Type 0 where
+  pub named : Good maxString (e .name)
+  pub ext : Fit maxString (e .extName)
+  pub symbolled : Fit maxString (e .symbolName)
+  pub imported : Fit maxString (e .importName)
+  pub exportedAs : Fit maxString (e .exportAs)
+
+pub record-good : (b : Bytes) → Shaped b → (k : ℕ) → earliest (recordRows b k) ≡ Fine → GoodExport (exportAt b k)
+unfolding recordRows exportAt fieldRows
+record-good b shape k e =
+    let strings = fine-rest _ _ e in
+    record {
+      named = string-good b shape k (fieldAt k 0) maxString true (at 0 strings (omega arith)) (string-required b shape k (fieldAt k 0) maxString true (at 0 strings (omega arith)) refl);
+      ext = string-fit b shape k (fieldAt k 1) maxString false (at 1 strings (omega arith));
+      symbolled = string-fit b shape k (fieldAt k 2) maxString false (at 2 strings (omega arith));
+      imported = string-fit b shape k (fieldAt k 3) maxString false (at 3 strings (omega arith));
+      exportedAs = string-fit b shape k (fieldAt k 4) maxString false (at 4 strings (omega arith));
+    }
+  where
+    at : (f : ℕ) → earliest (rowsFrom (fieldRows b k) 0 5) ≡ Fine → f < 5 → earliest (fieldRows b k f) ≡ Fine
+    at f q h = fine-at (fieldRows b k) 0 5 f q (omega arith) (omega arith)
+
+-- ---- the exports of a list: each is good, and its plan is no refusal
+
+pub record Accepts (machine : ℕ) (mingw : Bool) (e : Export) : Type 0 where
+  pub good : GoodExport e
+  pub planned : (n : ℕ) → plan machine mingw e ≡ refused n → ⊥
+
+name-planned : (machine : ℕ) (mingw : Bool) (b : Bytes) (k : ℕ) → isPrivate (exportAt b k) ≡ false → earliest (nameRows machine mingw b k) ≡ Fine
+    → (n : ℕ) → plan machine mingw (exportAt b k) ≡ refused n → ⊥
+unfolding nameRows planRows earliest
+name-planned machine mingw b k h e n q = let z : Refused n k ≡ Fine = rw (h, q) at e in let y : _≡_ {A = ℕ} 0 1 = cc in omega arith
+
+-- the exports from the k-th on, where the rows of all their records pass
+pub exports-accepted : (machine : ℕ) (mingw : Bool) (b : Bytes) → Shaped b → (k n : ℕ)
+    → ((i : ℕ) → k ≤ i → i < k + n → earliest (recordRows b i) ≡ Fine)
+    → ((i : ℕ) → k ≤ i → i < k + n → earliest (nameRows machine mingw b i) ≡ Fine)
+    → (e : Export) → List·Memᴰ e (exportsFrom b k n) → Accepts machine mingw e
+unfolding exportsFrom
+exports-accepted machine mingw b shape k zero rs ns e i = absurd (List·Memᴰ·not-nil i)
+exports-accepted machine mingw b shape k (suc n) rs ns e i =
+    pick (isPrivate (exportAt b k)) refl i
+    (exports-accepted machine mingw b shape (k + 1) n (λ j l h. rs j (omega arith) (omega arith)) (λ j l h. ns j (omega arith) (omega arith)) e)
+  where
+    here : isPrivate (exportAt b k) ≡ false → e ≡ exportAt b k → Accepts machine mingw e
+    here h q =
+        rw q
+        (record {
+          good = record-good b shape k (rs k (omega arith) (omega arith));
+          planned = name-planned machine mingw b k h (ns k (omega arith) (omega arith));
+        })
+
+    pick : (t : Bool) → isPrivate (exportAt b k) ≡ t → List·Memᴰ e (if t then exportsFrom b (k + 1) n else exportAt b k ∷ exportsFrom b (k + 1) n)
+        → (List·Memᴰ e (exportsFrom b (k + 1) n) → Accepts machine mingw e) → Accepts machine mingw e
+    pick true h j ih = ih j
+    pick false h j ih = ⊎-elim (λ q. here h q) (λ j. ih j) (List·Memᴰ·cases-cons j)
+
+pub exports-few : (b : Bytes) (k n : ℕ) → length (exportsFrom b k n) ≤ n
+unfolding exportsFrom
+exports-few b k zero = omega arith
+exports-few b k (suc n) = pick (isPrivate (exportAt b k)) (exports-few b (k + 1) n)
+  where
+    pick : (t : Bool) → length (exportsFrom b (k + 1) n) ≤ n → length (if t then exportsFrom b (k + 1) n else exportAt b k ∷ exportsFrom b (k + 1) n) ≤ suc n
+    pick true h = omega arith
+    pick false h = omega arith
+
+-- ---- an accepted list
+
+pub record Accepted (o : Options) (b : Bytes) : Type 0 where
+  pub machine : known (o .machine) ≡ true
+  pub shape : Shaped b
+  pub dll : Good maxDll (dllName b)
+  pub unbarred : barredDll (dllName b) ≡ false
+  pub firsts : (e : Export) → List·Memᴰ e (firstExports b) → Accepts (firstMachine (o .machine)) (o .mingw) e
+  pub natives : (e : Export) → List·Memᴰ e (nativeExports b) → Accepts (nativeMachine (o .machine)) (o .mingw) e
+
+pub accepted : (o : Options) (b : Bytes) → checkExports o b ≡ Fine → Accepted o b
+unfolding checkExports acceptRows machineRows listRows dllRows exportRows firstExports nativeExports
+accepted o b e =
+    let machines : earliest (machineRows (o .machine) ++ listRows b) ≡ Fine = fine-before (machineRows (o .machine) ++ listRows b) (exportRows o b) e in
+    let names : earliest (exportRows o b) ≡ Fine = fine-after (machineRows (o .machine) ++ listRows b) (exportRows o b) e in
+    let records = rowsFrom (recordRows b) 0 (bothCounts b) in
+    let lists : earliest (headerRows b ++ dllRows b ++ records) ≡ Fine = fine-after (machineRows (o .machine)) (listRows b) machines in
+    let header : earliest (headerRows b ++ dllRows b) ≡ Fine = fine-before (headerRows b ++ dllRows b) records lists in
+    let shape : Shaped b = header-shaped b (fine-before (headerRows b) (dllRows b) header) in
+    let dlls : earliest (dllRows b) ≡ Fine = fine-after (headerRows b) (dllRows b) header in
+    let string = stringRows b 0 dllField maxDll true in
+    let named : earliest string ≡ Fine = fine-before string (row 10 0 (barredDll (dllName b)) ∷ []) dlls in
+    let firstRows = rowsFrom (nameRows (firstMachine (o .machine)) (o .mingw) b) 0 (firstCount b) in
+    let nativeRows = rowsFrom (nameRows (nativeMachine (o .machine)) (o .mingw) b) (firstCount b) (nativeCount b) in
+    let at : (i : ℕ) → i < bothCounts b → earliest (recordRows b i) ≡ Fine
+    = λ i h. fine-at (recordRows b) 0 (bothCounts b) i (fine-after (headerRows b ++ dllRows b) records lists) (omega arith) (omega arith) in
+    record {
+      machine = not-false (known (o .machine)) (fine-row _ _ (fine-before (machineRows (o .machine)) (listRows b) machines));
+      shape = shape;
+      dll = string-good b shape 0 dllField maxDll true named (string-required b shape 0 dllField maxDll true named refl);
+      unbarred = fine-row _ _ (fine-after string (row 10 0 (barredDll (dllName b)) ∷ []) dlls);
+      firsts = exports-accepted (firstMachine (o .machine)) (o .mingw) b shape 0 (firstCount b) (λ i l h. at i (omega arith))
+          (λ i l h. fine-at _ 0 (firstCount b) i (fine-before firstRows nativeRows names) l h);
+      natives = exports-accepted (nativeMachine (o .machine)) (o .mingw) b shape (firstCount b) (nativeCount b) (λ i l h. at i (omega arith))
+          (λ i l h. fine-at _ (firstCount b) (nativeCount b) i (fine-after firstRows nativeRows names) l h);
+    }

@@ -1,0 +1,14 @@
+pub mod Refusals
+pub mod Accepted
+pub mod Names
+pub mod Plans
+pub mod Lengths
+pub mod Places
+pub mod ReadBack
+pub mod Members
+pub mod Totals
+pub mod Sets
+pub mod Leads
+pub mod Asks
+pub mod Definers
+pub mod Demand3
