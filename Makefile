@@ -1,5 +1,5 @@
 # Crepedum: import-library members, proved.
-.PHONY: test prove compare
+.PHONY: test prove lib compare bench
 
 # Everything: proofs, must-fail edits, programs, and the comparison beside the Rust.
 test:
@@ -9,6 +9,14 @@ test:
 prove:
 	@rt check
 
-# The comparison beside the Rust alone.
+# target/staticlib/libcrepedum.a, for C and Rust; include/crepedum.h declares it.
+lib:
+	@rt staticlib crepedum
+
+# The comparison beside the Rust at length.
 compare:
-	@tools/beside-rust
+	@tools/beside-rust 1000000
+
+# Times, on this machine, in release builds.
+bench: lib
+	@cd beside && cargo run --release --offline --quiet -- bench

@@ -1,3 +1,4 @@
 pub mod Rows
 pub mod Header
 pub mod Strings
+pub mod Listed

@@ -1,19 +1,19 @@
 -- The rows of a string by the facts that lead to each answer, and those of a record and of the DLL name by their parts.
 use Prim.Native.Nat.{ℕ, _+_, _≤_, _<_}
-use mathlib.Core.Path.{_≡_, sym, ap, _∙_}
-use mathlib.Core.Bool.{Bool, true, false}
+use mathlib.Core.Path.{_≡_, refl, sym, ap, _∙_}
+use mathlib.Core.Bool.{Bool, true, false, _&&_}
 use mathlib.Core.List.{[], _∷_, _++_}
 use native.Mathlib.Omega.{arith}
 use lib.ListN.{length, take}
 use lib.Dec.{eqb}
-use borrow.Author.Tests.{lt-ltb, le-ltb, eq-eqb, ne-eqb, ltb-false}
+use borrow.Author.Tests.{lt-ltb, le-ltb, eq-eqb, ne-eqb, ltb-false, eqb-false}
 use Rattle.wire.specs.Bytes.{Bytes, if_then_else_, u16At, u32At, part, holds}
 use Rattle.format.specs.Exports.{namesAt, namesLength, offsetOf, lengthOf, flagsAt, absentAt, bytesAt, dllField, dllName, bothCounts}
 use Rattle.format.specs.Names.{barredDll}
-use Rattle.format.specs.Refusals.{Row, row, earliest, stringRows, maxDll, dllRows, allFlags, rowsFrom, fieldRows, recordRows, headerRows, listRows}
+use Rattle.format.specs.Refusals.{Row, row, earliest, stringRows, maxDll, dllRows, allFlags, rowsFrom, fieldRows, recordRows, headerRows, restRows, listRows, checkList}
 use Rattle.format.specs.declared.Checked.{Checked}
 use Rattle.format.specs.declared.Checked.the-variants.{Fine, Refused}
-use Rattle.format.proofs.Rows.{_andThen_, earliest-none, earliest-given, earliest-passed, earliest-append, andThen-stops, andThen-goes-on, fine-row}
+use Rattle.format.proofs.Rows.{_andThen_, earliest-none, earliest-given, earliest-passed, earliest-append, andThen-stops, andThen-goes-on, fine-row, fine-rest}
 
 module _ (b : Bytes) (place at limit : ℕ) (required : Bool) where
   pub string-5 : namesLength b < offsetOf b at + lengthOf b at → Refused 5 place ≡ earliest (stringRows b place at limit required)
@@ -67,6 +67,21 @@ pub string-within : (b : Bytes) (place at limit : ℕ) (required : Bool) → ear
 unfolding stringRows
 string-within b place at limit required e = ltb-false _ _ (fine-row _ _ e)
 
+-- and is not above the limit
+pub string-few : (b : Bytes) (place at limit : ℕ) (required : Bool) → earliest (stringRows b place at limit required) ≡ Fine → lengthOf b at ≤ limit
+unfolding stringRows
+string-few b place at limit required e = ltb-false limit (lengthOf b at) (fine-row _ _ (fine-rest _ _ (fine-rest _ _ e)))
+
+-- and is not empty where it is required
+pub string-there : (b : Bytes) (place at limit : ℕ) → earliest (stringRows b place at limit true) ≡ Fine → 1 ≤ lengthOf b at
+unfolding stringRows absentAt
+string-there b place at limit e = pick (eqb (lengthOf b at) 0) refl (eqb (offsetOf b at) 0) (fine-row _ _ (fine-rest _ _ e))
+  where
+    pick : (t : Bool) → eqb (lengthOf b at) 0 ≡ t → (u : Bool) → (if t && u then true else t) ≡ false → 1 ≤ lengthOf b at
+    pick true h true q = let z : _≡_ {A = ℕ} 0 1 = cc in absurd (omega arith)
+    pick true h false q = let z : _≡_ {A = ℕ} 0 1 = cc in absurd (omega arith)
+    pick false h u q = let n = eqb-false (lengthOf b at) 0 h in omega arith
+
 -- ---- a record
 
 module _ (b : Bytes) (k : ℕ) where
@@ -100,3 +115,19 @@ module _ (b : Bytes) where
   pub dll-fine : (from n : ℕ) → earliest (stringRows b 0 dllField maxDll true) ≡ Fine → barredDll (part b from n) ≡ false
       → from ≡ namesAt b + u32At b 20 → n ≡ u32At b 24 → Fine ≡ earliest (dllRows b)
   dll-fine from n e q f l = sym (dll-goes-on e ∙ earliest-passed _ _ (ap barredDll (dll-is from n f l) ∙ q) ∙ earliest-none)
+
+  pub rest-stop : (number place : ℕ) → earliest (dllRows b) ≡ Refused number place → Refused number place ≡ earliest (restRows b)
+  unfolding restRows
+  rest-stop number place e = sym (earliest-append (dllRows b) _ ∙ andThen-stops _ _ number place e)
+
+  pub rest-records : (n : ℕ) → earliest (dllRows b) ≡ Fine → n ≡ bothCounts b → earliest (rowsFrom (recordRows b) 0 n) ≡ earliest (restRows b)
+  unfolding restRows
+  rest-records n e q = rw q (sym (earliest-append (dllRows b) _ ∙ andThen-goes-on _ _ e))
+
+  pub list-stop : (number place : ℕ) → earliest (headerRows b) ≡ Refused number place → Refused number place ≡ checkList b
+  unfolding checkList listRows
+  list-stop number place e = sym (earliest-append (headerRows b) _ ∙ andThen-stops _ _ number place e)
+
+  pub list-rest : earliest (headerRows b) ≡ Fine → earliest (restRows b) ≡ checkList b
+  unfolding checkList listRows
+  list-rest e = sym (earliest-append (headerRows b) _ ∙ andThen-goes-on _ _ e)

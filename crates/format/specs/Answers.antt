@@ -32,32 +32,30 @@ leaves (C.Refused number place) set out = out
 unfoldable pub outputAfter : Options → Bytes → Bytes → Bytes
 outputAfter o b out = leaves (checkAll o b (length out)) (memberSet o b) out
 
--- ---- one number for each answer: a refusal is its number times 2^32, plus its place
+-- ---- the paper's number of each answer: a refusal's number, or 0; and its place
 
-abbrev pub refusal : ℕ → ℕ → ℕ
-refusal number place = number * 4294967296 + place
-
--- the total
 unfoldable pub writtenNumber : Written → ℕ
-writtenNumber (W.Total n) = n
-writtenNumber (W.Refused number place) = refusal number place
+writtenNumber (W.Total n) = 0
+writtenNumber (W.Refused number place) = number
 
--- 1 descriptor, 2 null descriptor, 3 null thunk, 4 short import, 5 weak external
+unfoldable pub writtenPlace : Written → ℕ
+writtenPlace (W.Total n) = 0
+writtenPlace (W.Refused number place) = place
+
 unfoldable pub readNumber : Read → ℕ
-readNumber (R.Descriptor m c dll s) = 1
-readNumber (R.NullDescriptor m c s) = 2
-readNumber (R.NullThunk m s) = 3
-readNumber (R.ShortImport m o t k s dll x) = 4
-readNumber (R.WeakExternal m target alias) = 5
-readNumber (R.Refused number place) = refusal number place
+readNumber (R.Descriptor m c dll s) = 0
+readNumber (R.NullDescriptor m c s) = 0
+readNumber (R.NullThunk m s) = 0
+readNumber (R.ShortImport m o t k s dll x) = 0
+readNumber (R.WeakExternal m target alias) = 0
+readNumber (R.Refused number place) = number
 
--- 0 not found, 1 nowhere, 2 an ordinal, 3 a name
 unfoldable pub lookedNumber : Looked → ℕ
 lookedNumber L.NotFound = 0
-lookedNumber L.Nowhere = 1
-lookedNumber (L.Ordinal o) = 2
-lookedNumber (L.Name s) = 3
-lookedNumber (L.Refused number place) = refusal number place
+lookedNumber L.Nowhere = 0
+lookedNumber (L.Ordinal o) = 0
+lookedNumber (L.Name s) = 0
+lookedNumber (L.Refused number place) = number
 
 -- ---- the values of each answer
 
@@ -72,6 +70,20 @@ ends s = s .start ∷ s .length ∷ []
 abbrev pub noName : List ℕ
 noName = 0 ∷ 0 ∷ []
 
+-- the total
+unfoldable pub writtenTotal : Written → ℕ
+writtenTotal (W.Total n) = n
+writtenTotal (W.Refused number place) = 0
+
+-- 1 descriptor, 2 null descriptor, 3 null thunk, 4 short import, 5 weak external
+unfoldable pub layoutNumber : Read → ℕ
+layoutNumber (R.Descriptor m c dll s) = 1
+layoutNumber (R.NullDescriptor m c s) = 2
+layoutNumber (R.NullThunk m s) = 3
+layoutNumber (R.ShortImport m o t k s dll x) = 4
+layoutNumber (R.WeakExternal m target alias) = 5
+layoutNumber (R.Refused number place) = 0
+
 -- machine, ordinal, type, kind, compat, then start and length of up to three names; 0 where the layout has none
 unfoldable pub readValues : Read → List ℕ
 readValues (R.Descriptor m c dll s) = m ∷ 0 ∷ 0 ∷ 0 ∷ bit c ∷ ends dll ++ ends s ++ noName
@@ -80,6 +92,14 @@ readValues (R.NullThunk m s) = m ∷ 0 ∷ 0 ∷ 0 ∷ 0 ∷ ends s ++ noName ++
 readValues (R.ShortImport m o t k s dll x) = m ∷ o ∷ t ∷ k ∷ 0 ∷ ends s ++ ends dll ++ ends x
 readValues (R.WeakExternal m target alias) = m ∷ 0 ∷ 0 ∷ 0 ∷ 0 ∷ ends target ++ ends alias ++ noName
 readValues (R.Refused number place) = []
+
+-- 0 not found, 1 nowhere, 2 an ordinal, 3 a name
+unfoldable pub whereNumber : Looked → ℕ
+whereNumber L.NotFound = 0
+whereNumber L.Nowhere = 1
+whereNumber (L.Ordinal o) = 2
+whereNumber (L.Name s) = 3
+whereNumber (L.Refused number place) = 0
 
 -- an ordinal; a name's start and length
 unfoldable pub lookedValues : Looked → List ℕ
@@ -91,5 +111,5 @@ lookedValues (L.Refused number place) = []
 
 -- `unfolding opened` opens all of this module
 unfoldable pub opened : Unit {0}
-unfolding total written leaves outputAfter writtenNumber readNumber lookedNumber readValues lookedValues
+unfolding total written leaves outputAfter writtenNumber writtenPlace readNumber lookedNumber writtenTotal layoutNumber readValues whereNumber lookedValues
 opened = tt

@@ -1,21 +1,21 @@
 -- The customer's three demands, as statements. `Demand1` and `Demand2` speak of what an operation answers; `Demand3` of the written bytes.
-use Prim.Native.Nat.{ℕ}
+use Prim.Native.Nat.{ℕ, _+_, _≤_, _<_}
 use mathlib.Core.Path.{_≡_}
 use mathlib.Core.Bool.{Bool, true, false}
-use mathlib.Core.Option.{Option, none, some, Option·getD}
+use mathlib.Core.Option.{Option, none, some, Option·getD, Option·map}
 use mathlib.Core.List.{List, [], _∷_, _++_, map, List·Memᴰ}
-use lib.ListN.{length, take, drop}
+use lib.ListN.{length, drop}
 use lib.Dec.{eqb}
-use Rattle.wire.specs.Bytes.{Bytes, Octets, ascii, if_then_else_, part}
+use Rattle.wire.specs.Bytes.{Bytes, Octets, if_then_else_, part}
 use Rattle.format.specs.Machines.{firstMachine, nativeMachine}
 use Rattle.format.specs.Exports.{Export, noname, firstExports, nativeExports}
 use Rattle.format.specs.Names.{apply, plainType}
 use Rattle.format.specs.Plan.{Plan, plain, deferred, refused, base, publicName, kind, ecCode, plan}
 use Rattle.format.specs.Layouts.{Member, short, encode}
 use Rattle.format.specs.Library.{Options, imp, lastAnswering, firstMembers, nativeMembers, allMembers, memberSet}
-use Rattle.format.specs.Refusals.{Row, row, acceptRows, roomRows, checkExports}
-use Rattle.format.specs.Reader.{Reads, read, fields}
-use Rattle.format.specs.Lookup.{symbols, among, lookup}
+use Rattle.format.specs.Refusals.{Row, allRows, checkExports}
+use Rattle.format.specs.Reader.{Reads, read, fields, namesPut, namesRead}
+use Rattle.format.specs.Lookup.{Placed, setFirsts, setNatives, readSet, symbols, among, lookup}
 use Rattle.format.specs.declared.Checked.the-variants.{Fine}
 use Rattle.format.specs.declared.Written.{Written}
 use Rattle.format.specs.declared.Written.the-variants as W
@@ -37,27 +37,42 @@ pub data NoneGiven : List Row → Type 0 where
   no-row : NoneGiven []
   not-this : {r : Row} {rs : List Row} → r .given ≡ false → NoneGiven rs → NoneGiven (r ∷ rs)
 
-abbrev pub rows : Options → Bytes → Bytes → List Row
-rows o b out = acceptRows o b ++ roomRows o b (length out)
-
 -- the list b and the output out came in; r is the answer, and out′ what the output then holds
 pub record Demand1 (o : Options) (b out : Bytes) (r : Written) (out′ : Bytes) : Type 0 where
-  pub refuses : (number place : ℕ) → Earliest number place (rows o b out) → (r ≡ W.Refused number place) × (out′ ≡ out)
-  pub succeeds : NoneGiven (rows o b out)
+  pub refuses : (number place : ℕ) → Earliest number place (allRows o b (length out)) → (r ≡ W.Refused number place) × (out′ ≡ out)
+  pub succeeds : NoneGiven (allRows o b (length out))
       → (r ≡ W.Total (length (memberSet o b))) × (out′ ≡ memberSet o b ++ drop (length (memberSet o b)) out)
 
--- ---- demand 2: the reader accepts exactly the five layouts and returns what was put in
+-- ---- demand 2: the reader accepts exactly the five layouts and returns what was put in. That every member is written as its layout says is
+-- demand 1's success: `memberSet` is made of `encode`.
+
+-- the bytes at a place
+abbrev pub shownAt : Bytes → Span → Bytes
+shownAt b s = part b (s .start) (s .length)
 
 -- the member b came in, and r is the answer
 pub record Demand2 (b : Bytes) (r : Read) : Type 0 where
   pub accepts : (m : Member) → Reads b m → r ≡ fields m
   pub refuses : ((m : Member) → Reads b m → ⊥) → r ≡ R.Refused 16 0
+  pub returns : (m : Member) → Reads b m → map (shownAt b) (namesRead r) ≡ namesPut m
 
--- every member written of an accepted list is read back as what was put in
+-- an accepted list's set: every member is read back as what was put in, the set is valid and its two lists are the two lists written, and its
+-- total is below 2^32
 pub record ReadBack (o : Options) (b : Bytes) : Type 0 where
-  pub back : Octets b → checkExports o b ≡ Fine → (m : Member) → List·Memᴰ m (allMembers o b) → read (encode m) ≡ some m
+  pub back : (m : Member) → List·Memᴰ m (allMembers o b) → read (encode m) ≡ some m
+  pub members : Option·map (map (λ (p : Placed). p .member)) (readSet (memberSet o b)) ≡ some (allMembers o b)
+  pub firsts : setFirsts (memberSet o b) ≡ length (firstMembers o b)
+  pub natives : setNatives (memberSet o b) ≡ length (nativeMembers o b)
+  pub fits : length (memberSet o b) < 4294967296
 
--- ---- demand 3: where each symbol of an accepted list leads
+-- ---- the lookup: of any bytes, list number and symbol; an answered name is a part of the set
+
+pub record LookedUp (set : Bytes) (number : ℕ) (s : Bytes) (r : Looked) : Type 0 where
+  pub answers : r ≡ lookup set number s
+  pub lies : (n : Span) → r ≡ L.Name n → n .start + n .length ≤ length set
+
+-- ---- demand 3: where each symbol of an accepted list leads. That an alias takes the last import with the wanted key is in `lastAnswering`,
+-- which the table of examples pins.
 
 pub data Entry : Type 0 where
   byOrdinal : ℕ → Entry
@@ -143,19 +158,28 @@ pub data Distinct : List Member → Type 0 where
 
 -- no public name begins with `__imp_`
 pub record Plainly (es : List Export) : Type 0 where
-  pub unprefixed : (e : Export) (p : Bytes) → List·Memᴰ e es → publicName e ≡ some p → take 6 p ≡ ascii "__imp_" → ⊥
+  pub unprefixed : (e : Export) (rest : Bytes) → List·Memᴰ e es → publicName e ≡ some (imp rest) → ⊥
 
 -- ---- the demand, of the list with a number in the written bytes
 
+-- each symbol of its exports leads where its record asks
 pub record Kept (set : Bytes) (number machine : ℕ) (mingw : Bool) (es : List Export) : Type 0 where
   pub led : (l : Leading) → Asked machine mingw es l → meaning set (lookup set number (l .symbol)) ≡ l .leadsTo
+
+-- any other symbol is found in no member
+pub record Closed (set : Bytes) (number machine : ℕ) (mingw : Bool) (es : List Export) : Type 0 where
   pub others : (s : Bytes) → ((l : Leading) → Asked machine mingw es l → l .symbol ≡ s → ⊥) → meaning set (lookup set number s) ≡ notFound
 
 pub record Demand3 (o : Options) (b : Bytes) : Type 0 where
-  pub first : Octets b → checkExports o b ≡ Fine → Distinct (firstMembers o b) → Plainly (firstExports b)
-      → Kept (memberSet o b) 1 (firstMachine (o .machine)) (o .mingw) (firstExports b)
-  pub native : Octets b → checkExports o b ≡ Fine → Distinct (nativeMembers o b) → Plainly (nativeExports b)
-      → Kept (memberSet o b) 2 (nativeMachine (o .machine)) (o .mingw) (nativeExports b)
+  pub first : Distinct (firstMembers o b) → Plainly (firstExports b) → Kept (memberSet o b) 1 (firstMachine (o .machine)) (o .mingw) (firstExports b)
+  pub native : Distinct (nativeMembers o b) → Plainly (nativeExports b) → Kept (memberSet o b) 2 (nativeMachine (o .machine)) (o .mingw) (nativeExports b)
+  pub firstClosed : Closed (memberSet o b) 1 (firstMachine (o .machine)) (o .mingw) (firstExports b)
+  pub nativeClosed : Closed (memberSet o b) 2 (nativeMachine (o .machine)) (o .mingw) (nativeExports b)
+
+-- demands 2 and 3 of a list of bytes that is accepted
+pub record Promised (o : Options) (b : Bytes) : Type 0 where
+  pub readBack : Octets b → checkExports o b ≡ Fine → ReadBack o b
+  pub leading : Octets b → checkExports o b ≡ Fine → Demand3 o b
 
 -- `unfolding opened` opens all of this module
 unfoldable pub opened : Unit {0}

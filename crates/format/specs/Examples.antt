@@ -28,6 +28,13 @@ use Rattle.format.specs.Demands as Demands
 use Rattle.format.specs.Demands.{Where, leads, nowhere, notFound, byOrdinal, byName, meaning}
 use Rattle.format.specs.declared.Checked.the-variants.{Fine, Refused}
 use Rattle.format.specs.declared.Read.the-variants.{ShortImport}
+use Rattle.format.specs.declared.Read.the-variants as R
+use Rattle.format.specs.declared.Looked.the-variants as L
+use Rattle.format.specs.declared.Written.the-variants as W
+use Rattle.format.specs.Answers as Answers
+use Rattle.format.specs.Answers.{written, outputAfter}
+use Rattle.format.specs.Library.{setBytes}
+use lib.ListN.{replicate}
 
 -- ---- a list made for an example: its DLL name is att.dll
 
@@ -199,8 +206,147 @@ pub table :
     × (stem (ascii "a.b.c") ≡ ascii "a.b")
     -- the reader's places
     × (readFields (encode (exporting amd64 "f" "x")) ≡ ShortImport amd64 0 4 0 (span 20 1) (span 22 7) (span 30 1))
-unfolding Bytes.opened Machines.opened Exports.opened Names.opened Plan.opened Layouts.opened Library.opened Refusals.opened Reader.opened Lookup.opened Demands.opened
+    -- the reader: every layout's places
+    × (readFields (encode (descriptor amd64 dll false)) ≡ R.Descriptor amd64 false (span 150 7) (span 308 3))
+    × (readFields (encode (descriptor i386 dll true)) ≡ R.Descriptor i386 true (span 150 7) (span 308 3))
+    × (readFields (encode (nullDescriptor amd64 none)) ≡ R.NullDescriptor amd64 false (span 0 0))
+    × (readFields (encode (nullDescriptor amd64 (some (ascii "att")))) ≡ R.NullDescriptor amd64 true (span 127 3))
+    × (readFields (encode (nullThunk i386 (ascii "/:"))) ≡ R.NullThunk i386 (span 131 2))
+    × (readFields (encode (weak amd64 (ascii "_att_step") (ascii "att_go"))) ≡ R.WeakExternal amd64 (span 154 9) (span 164 6))
+    -- and what it does not admit: ARM64EC but in short imports, a DLL name the writer refuses, kind 3, an empty weak name
+    × (readFields (encode (weak arm64ec (ascii "t") (ascii "a"))) ≡ R.Refused 16 0)
+    × (readFields (encode (short arm64ec 0 0 1 (ascii "t") (ascii ".") [])) ≡ R.Refused 16 0)
+    × (readFields (encode (short arm64ec 0 3 1 (ascii "t") dll [])) ≡ R.Refused 16 0)
+    × (readFields (encode (weak amd64 [] (ascii "a"))) ≡ R.Refused 16 0)
+    -- refusals: order and places
+    × (checkAll (on 0x1014C) [] 0 ≡ Refused 1 0)
+    × (checkAll (on amd64) (part (list []) 0 27) 0 ≡ Refused 2 0)
+    × (checkExports (on amd64) (le32 4097 ++ drop 4 (list [])) ≡ Refused 3 0)
+    × (checkExports (on amd64) (le32 4096 ++ le32 4096 ++ drop 8 (list [])) ≡ Refused 4 0)
+    × (checkExports (on amd64) (le32 0 ++ le32 0 ++ le32 29 ++ drop 12 (list [])) ≡ Refused 4 0)
+    × (checkExports (on amd64) (part (list []) 0 20 ++ le32 1 ++ le32 7 ++ dll) ≡ Refused 5 0)
+    × (checkExports (on amd64) (part (list []) 0 20 ++ le32 0 ++ le32 0 ++ dll) ≡ Refused 6 0)
+    × (checkExports (on amd64) (part (list []) 0 20 ++ le32 7 ++ le32 0 ++ dll) ≡ Refused 6 0)
+    × (checkExports (on amd64) (part (list []) 0 28 ++ ascii "att\0dll") ≡ Refused 8 0)
+    × (checkExports (on amd64) (part (list (named "f" 0 16 ∷ [])) 0 72 ++ ascii "att\\dllf") ≡ Refused 10 0)
+    × (checkExports (on amd64) (part (list []) 0 20 ++ le32 3 ++ le32 1 ++ dll) ≡ Refused 10 0)
+    × (checkExports (on arm64ec) (lists (named "?f" 0 4 ∷ named "f" 0 0 ∷ []) (named "?f" 0 0 ∷ renamed "a" "b" "_b" ∷ [])) ≡ Refused 11 3)
+    -- a record's flags come before its strings
+    × (checkExports (on amd64) (list (named "f\0" 0 16 ∷ [])) ≡ Refused 9 0)
+    -- private exports are left out; a constant is 2 even if data; its plain symbol stays
+    × (firsts amd64 (named "a" 0 4 ∷ named "b" 7 10 ∷ []) ≡ short amd64 7 2 1 (ascii "b") dll [] ∷ [])
+    × (led amd64 (named "a" 0 10 ∷ wants "b" "a" 0 ∷ []) (ascii "b") ≡ leads (byName (ascii "a")))
+    × (firsts amd64 (named "a" 0 0 ∷ wants "b" "a" 8 ∷ []) ≡ plainShort amd64 1 "a" ∷ weak amd64 (ascii "__imp_a") (ascii "__imp_b") ∷ [])
+    -- import_name on I386: 3 before 2, then 1; the ordinal of a deferred one stays
+    × (firsts i386 (wants "_f" "f" 0 ∷ []) ≡ plainShort i386 3 "_f" ∷ [])
+    × (firsts amd64 (wants "f" "f" 0 ∷ []) ≡ plainShort amd64 1 "f" ∷ [])
+    × (firsts amd64 (given (ascii "f" ∷ [] ∷ [] ∷ ascii "g" ∷ [] ∷ []) 7 0 ∷ []) ≡ short amd64 7 0 4 (ascii "f") dll (ascii "g") ∷ [])
+    × (firsts arm64ec (wants "f" "f" 0 ∷ []) ≡ exporting arm64ec "#f" "f" ∷ [])
+    × (firsts arm64ec (wants "?f" "g" 0 ∷ named "?f" 3 1 ∷ named "f" 0 2 ∷ []) ≡ exporting arm64ec "?f" "g" ∷ short arm64ec 3 0 0 (ascii "?f") dll [] ∷ short arm64ec 0 1 1 (ascii "f") dll [] ∷ [])
+    × (firsts arm64ec (exportedAs "f" "x" ∷ named "?f$$hg" 0 0 ∷ []) ≡ exporting arm64ec "#f" "x" ∷ exporting arm64ec "?f$$hg" "?fg" ∷ [])
+    -- the type by base and name: a decorated name, with mingw and without; a base that differs, before the underscore
+    × (firsts i386 (named "_f@4" 0 0 ∷ []) ≡ plainShort i386 1 "_f@4" ∷ [])
+    × (firstMembers (record { machine = i386; mingw = true; compat = false }) (list (named "_f@4" 0 0 ∷ [])) ≡ plainShort i386 2 "_f@4" ∷ [])
+    × (firsts amd64 (named "_f" 0 0 ∷ []) ≡ plainShort amd64 1 "_f" ∷ [])
+    × (firsts i386 (given (ascii "f" ∷ [] ∷ ascii "_f@8" ∷ [] ∷ [] ∷ []) 0 0 ∷ []) ≡ plainShort i386 3 "_f@8" ∷ [])
+    × (replace (ascii "f") (ascii "_g") (ascii "_f") ≡ none)
+    × (replace (ascii "f") (ascii "_") (ascii "_x") ≡ some (ascii "xf"))
+    × (replace (ascii "f") (ascii "_f") (ascii "x") ≡ none)
+    -- ARM64EC and ARM64X: fixed members are ARM64's; the lists keep apart
+    × (part (memberSet (on arm64ec) (list [])) 40 2 ≡ le16 arm64)
+    × (nativeMembers (on arm64x) (lists (named "f" 0 0 ∷ []) (named "g" 0 0 ∷ [])) ≡ plainShort arm64 1 "g" ∷ [])
+    -- lookup: the symbols of an ARM64EC import, the empty one among them; not a set, before the list's number
+    × (led arm64ec (named "#" 0 0 ∷ []) [] ≡ leads (byName []))
+    × (led arm64ec (named "f" 0 0 ∷ []) (ascii "__imp_aux_f") ≡ leads (byName (ascii "f")))
+    × (led arm64ec (named "f" 0 0 ∷ []) (ascii "#f") ≡ leads (byName (ascii "f")))
+    × (led arm64ec (named "f" 0 0 ∷ []) (ascii "__imp_#f") ≡ notFound)
+    × (led amd64 (wants "b" "__imp_a" 0 ∷ named "__imp_a" 0 isDatum ∷ []) (ascii "b") ≡ nowhere)
+    × (lookup (memberSet (on amd64) (list (named "a" 0 0 ∷ []))) 3 (ascii "a") ≡ L.NotFound)
+    × (lookup (memberSet (on amd64) (list []) ++ 0 ∷ []) 3 [] ≡ L.Refused 17 0)
+    × (lookup (le32 3 ++ le32 1 ++ drop 8 (memberSet (on amd64) (list []))) 1 [] ≡ L.Refused 17 0)
+    × (lookup (setBytes 0 0 (map encode (nullDescriptor amd64 none ∷ descriptor amd64 dll false ∷ nullThunk amd64 (ascii "att") ∷ []))) 1 [] ≡ L.Refused 17 0)
+    × (lookup (setBytes 2 0 (map encode (descriptor amd64 dll false ∷ nullDescriptor amd64 none ∷ nullThunk amd64 (ascii "att") ∷ weak amd64 (ascii "b") (ascii "a") ∷ weak amd64 (ascii "a") (ascii "b") ∷ []))) 1 (ascii "a") ≡ L.Nowhere)
+    -- the writer's answer and output
+    × (written (on amd64) (list []) 684 ≡ W.Total 684)
+    × (part (outputAfter (on amd64) (list []) (replicate 686 9)) 682 4 ≡ 65 ∷ 0 ∷ 9 ∷ 9 ∷ [])
+    × (firsts arm64ec (wants "f" "f" isDatum ∷ []) ≡ short arm64ec 0 1 4 (ascii "f") dll (ascii "f") ∷ [])
+    × (checkExports (on amd64) (part (list (named "f" 0 0 ∷ [])) 0 36 ++ le32 1 ++ drop 40 (list (named "f" 0 0 ∷ []))) ≡ Refused 6 0)
+    × (lookup (memberSet (on amd64) (lists [] (named "a" 0 0 ∷ []))) 3 (ascii "a") ≡ L.NotFound)
+    × (checkExports (on amd64) (le32 0 ++ le32 0 ++ le32 28 ++ le32 28 ++ le32 256 ++ le32 0 ++ le32 256 ++ replicate 256 97) ≡ Refused 7 0)
+    × (readFields (encode (short amd64 0 0 1 (replicate 8191 97) dll [])) ≡ R.Refused 16 0)
+    -- the bytes of the other four layouts, as the Rust writes them
+    × (encode (descriptor i386 (ascii "a.d") true) ≡ (76 ∷ 1 ∷ 2 ∷ 0 ∷ 0 ∷ 0 ∷ 0 ∷ 0 ∷ 154 ∷ 0 ∷ 0 ∷ 0 ∷ 7 ∷ 0 ∷ 0 ∷ 0 ∷ 0 ∷ 0 ∷ 0 ∷ 1 ∷ 46 ∷ 105 ∷ 100 ∷ 97 ∷ 116 ∷ 97 ∷ 36 ∷ 50 ∷ 0 ∷ 0 ∷ 0 ∷ 0 ∷ 0 ∷ 0 ∷ 0 ∷ 0 ∷ 20 ∷ 0 ∷ 0 ∷ 0 ∷ 100 ∷ 0 ∷ 0 ∷ 0 ∷ 120 ∷ 0 ∷ 0 ∷ 0 ∷ 0 ∷ 0 ∷ 0 ∷ 0 ∷ 3 ∷ 0 ∷ 0 ∷ 0 ∷ 64 ∷ 0 ∷ 48 ∷ 192 ∷ 46 ∷ 105 ∷ 100 ∷ 97 ∷ 116 ∷ 97 ∷ 36 ∷ 54 ∷ 0 ∷ 0 ∷ 0 ∷ 0 ∷ 0 ∷ 0 ∷ 0 ∷ 0 ∷ 4 ∷ 0 ∷ 0 ∷ 0 ∷ 150 ∷ 0 ∷ 0 ∷ 0 ∷ 0 ∷ 0 ∷ 0 ∷ 0 ∷ 0 ∷ 0 ∷ 0 ∷ 0 ∷ 0 ∷ 0 ∷ 0 ∷ 0 ∷ 64 ∷ 0 ∷ 32 ∷ 192 ∷ 0 ∷ 0 ∷ 0 ∷ 0 ∷ 0 ∷ 0 ∷ 0 ∷ 0 ∷ 0 ∷ 0 ∷ 0 ∷ 0 ∷ 0 ∷ 0 ∷ 0 ∷ 0 ∷ 0 ∷ 0 ∷ 0 ∷ 0 ∷ 12 ∷ 0 ∷ 0 ∷ 0 ∷ 2 ∷ 0 ∷ 0 ∷ 0 ∷ 7 ∷ 0 ∷ 0 ∷ 0 ∷ 0 ∷ 0 ∷ 3 ∷ 0 ∷ 0 ∷ 0 ∷ 7 ∷ 0 ∷ 16 ∷ 0 ∷ 0 ∷ 0 ∷ 4 ∷ 0 ∷ 0 ∷ 0 ∷ 7 ∷ 0 ∷ 97 ∷ 46 ∷ 100 ∷ 0 ∷ 0 ∷ 0 ∷ 0 ∷ 0 ∷ 4 ∷ 0 ∷ 0 ∷ 0 ∷ 0 ∷ 0 ∷ 0 ∷ 0 ∷ 1 ∷ 0 ∷ 0 ∷ 0 ∷ 2 ∷ 0 ∷ 46 ∷ 105 ∷ 100 ∷ 97 ∷ 116 ∷ 97 ∷ 36 ∷ 50 ∷ 0 ∷ 0 ∷ 0 ∷ 0 ∷ 1 ∷ 0 ∷ 0 ∷ 0 ∷ 104 ∷ 0 ∷ 46 ∷ 105 ∷ 100 ∷ 97 ∷ 116 ∷ 97 ∷ 36 ∷ 54 ∷ 0 ∷ 0 ∷ 0 ∷ 0 ∷ 2 ∷ 0 ∷ 0 ∷ 0 ∷ 3 ∷ 0 ∷ 46 ∷ 105 ∷ 100 ∷ 97 ∷ 116 ∷ 97 ∷ 36 ∷ 52 ∷ 0 ∷ 0 ∷ 0 ∷ 0 ∷ 0 ∷ 0 ∷ 0 ∷ 0 ∷ 104 ∷ 0 ∷ 46 ∷ 105 ∷ 100 ∷ 97 ∷ 116 ∷ 97 ∷ 36 ∷ 53 ∷ 0 ∷ 0 ∷ 0 ∷ 0 ∷ 0 ∷ 0 ∷ 0 ∷ 0 ∷ 104 ∷ 0 ∷ 0 ∷ 0 ∷ 0 ∷ 0 ∷ 26 ∷ 0 ∷ 0 ∷ 0 ∷ 0 ∷ 0 ∷ 0 ∷ 0 ∷ 0 ∷ 0 ∷ 0 ∷ 0 ∷ 2 ∷ 0 ∷ 0 ∷ 0 ∷ 0 ∷ 0 ∷ 53 ∷ 0 ∷ 0 ∷ 0 ∷ 0 ∷ 0 ∷ 0 ∷ 0 ∷ 0 ∷ 0 ∷ 0 ∷ 0 ∷ 2 ∷ 0 ∷ 72 ∷ 0 ∷ 0 ∷ 0 ∷ 95 ∷ 95 ∷ 73 ∷ 77 ∷ 80 ∷ 79 ∷ 82 ∷ 84 ∷ 95 ∷ 68 ∷ 69 ∷ 83 ∷ 67 ∷ 82 ∷ 73 ∷ 80 ∷ 84 ∷ 79 ∷ 82 ∷ 95 ∷ 97 ∷ 0 ∷ 95 ∷ 95 ∷ 78 ∷ 85 ∷ 76 ∷ 76 ∷ 95 ∷ 73 ∷ 77 ∷ 80 ∷ 79 ∷ 82 ∷ 84 ∷ 95 ∷ 68 ∷ 69 ∷ 83 ∷ 67 ∷ 82 ∷ 73 ∷ 80 ∷ 84 ∷ 79 ∷ 82 ∷ 95 ∷ 97 ∷ 0 ∷ 127 ∷ 97 ∷ 95 ∷ 78 ∷ 85 ∷ 76 ∷ 76 ∷ 95 ∷ 84 ∷ 72 ∷ 85 ∷ 78 ∷ 75 ∷ 95 ∷ 68 ∷ 65 ∷ 84 ∷ 65 ∷ 0 ∷ []))
+    × (encode (descriptor amd64 (ascii "a.d") false) ≡ (100 ∷ 134 ∷ 2 ∷ 0 ∷ 0 ∷ 0 ∷ 0 ∷ 0 ∷ 154 ∷ 0 ∷ 0 ∷ 0 ∷ 7 ∷ 0 ∷ 0 ∷ 0 ∷ 0 ∷ 0 ∷ 0 ∷ 0 ∷ 46 ∷ 105 ∷ 100 ∷ 97 ∷ 116 ∷ 97 ∷ 36 ∷ 50 ∷ 0 ∷ 0 ∷ 0 ∷ 0 ∷ 0 ∷ 0 ∷ 0 ∷ 0 ∷ 20 ∷ 0 ∷ 0 ∷ 0 ∷ 100 ∷ 0 ∷ 0 ∷ 0 ∷ 120 ∷ 0 ∷ 0 ∷ 0 ∷ 0 ∷ 0 ∷ 0 ∷ 0 ∷ 3 ∷ 0 ∷ 0 ∷ 0 ∷ 64 ∷ 0 ∷ 48 ∷ 192 ∷ 46 ∷ 105 ∷ 100 ∷ 97 ∷ 116 ∷ 97 ∷ 36 ∷ 54 ∷ 0 ∷ 0 ∷ 0 ∷ 0 ∷ 0 ∷ 0 ∷ 0 ∷ 0 ∷ 4 ∷ 0 ∷ 0 ∷ 0 ∷ 150 ∷ 0 ∷ 0 ∷ 0 ∷ 0 ∷ 0 ∷ 0 ∷ 0 ∷ 0 ∷ 0 ∷ 0 ∷ 0 ∷ 0 ∷ 0 ∷ 0 ∷ 0 ∷ 64 ∷ 0 ∷ 32 ∷ 192 ∷ 0 ∷ 0 ∷ 0 ∷ 0 ∷ 0 ∷ 0 ∷ 0 ∷ 0 ∷ 0 ∷ 0 ∷ 0 ∷ 0 ∷ 0 ∷ 0 ∷ 0 ∷ 0 ∷ 0 ∷ 0 ∷ 0 ∷ 0 ∷ 12 ∷ 0 ∷ 0 ∷ 0 ∷ 2 ∷ 0 ∷ 0 ∷ 0 ∷ 3 ∷ 0 ∷ 0 ∷ 0 ∷ 0 ∷ 0 ∷ 3 ∷ 0 ∷ 0 ∷ 0 ∷ 3 ∷ 0 ∷ 16 ∷ 0 ∷ 0 ∷ 0 ∷ 4 ∷ 0 ∷ 0 ∷ 0 ∷ 3 ∷ 0 ∷ 97 ∷ 46 ∷ 100 ∷ 0 ∷ 0 ∷ 0 ∷ 0 ∷ 0 ∷ 4 ∷ 0 ∷ 0 ∷ 0 ∷ 0 ∷ 0 ∷ 0 ∷ 0 ∷ 1 ∷ 0 ∷ 0 ∷ 0 ∷ 2 ∷ 0 ∷ 46 ∷ 105 ∷ 100 ∷ 97 ∷ 116 ∷ 97 ∷ 36 ∷ 50 ∷ 0 ∷ 0 ∷ 0 ∷ 0 ∷ 1 ∷ 0 ∷ 0 ∷ 0 ∷ 104 ∷ 0 ∷ 46 ∷ 105 ∷ 100 ∷ 97 ∷ 116 ∷ 97 ∷ 36 ∷ 54 ∷ 0 ∷ 0 ∷ 0 ∷ 0 ∷ 2 ∷ 0 ∷ 0 ∷ 0 ∷ 3 ∷ 0 ∷ 46 ∷ 105 ∷ 100 ∷ 97 ∷ 116 ∷ 97 ∷ 36 ∷ 52 ∷ 0 ∷ 0 ∷ 0 ∷ 0 ∷ 0 ∷ 0 ∷ 0 ∷ 0 ∷ 104 ∷ 0 ∷ 46 ∷ 105 ∷ 100 ∷ 97 ∷ 116 ∷ 97 ∷ 36 ∷ 53 ∷ 0 ∷ 0 ∷ 0 ∷ 0 ∷ 0 ∷ 0 ∷ 0 ∷ 0 ∷ 104 ∷ 0 ∷ 0 ∷ 0 ∷ 0 ∷ 0 ∷ 26 ∷ 0 ∷ 0 ∷ 0 ∷ 0 ∷ 0 ∷ 0 ∷ 0 ∷ 0 ∷ 0 ∷ 0 ∷ 0 ∷ 2 ∷ 0 ∷ 0 ∷ 0 ∷ 0 ∷ 0 ∷ 51 ∷ 0 ∷ 0 ∷ 0 ∷ 0 ∷ 0 ∷ 0 ∷ 0 ∷ 0 ∷ 0 ∷ 0 ∷ 0 ∷ 2 ∷ 0 ∷ 70 ∷ 0 ∷ 0 ∷ 0 ∷ 95 ∷ 95 ∷ 73 ∷ 77 ∷ 80 ∷ 79 ∷ 82 ∷ 84 ∷ 95 ∷ 68 ∷ 69 ∷ 83 ∷ 67 ∷ 82 ∷ 73 ∷ 80 ∷ 84 ∷ 79 ∷ 82 ∷ 95 ∷ 97 ∷ 0 ∷ 95 ∷ 95 ∷ 78 ∷ 85 ∷ 76 ∷ 76 ∷ 95 ∷ 73 ∷ 77 ∷ 80 ∷ 79 ∷ 82 ∷ 84 ∷ 95 ∷ 68 ∷ 69 ∷ 83 ∷ 67 ∷ 82 ∷ 73 ∷ 80 ∷ 84 ∷ 79 ∷ 82 ∷ 0 ∷ 127 ∷ 97 ∷ 95 ∷ 78 ∷ 85 ∷ 76 ∷ 76 ∷ 95 ∷ 84 ∷ 72 ∷ 85 ∷ 78 ∷ 75 ∷ 95 ∷ 68 ∷ 65 ∷ 84 ∷ 65 ∷ 0 ∷ []))
+    × (encode (nullDescriptor armnt none) ≡ (196 ∷ 1 ∷ 1 ∷ 0 ∷ 0 ∷ 0 ∷ 0 ∷ 0 ∷ 80 ∷ 0 ∷ 0 ∷ 0 ∷ 1 ∷ 0 ∷ 0 ∷ 0 ∷ 0 ∷ 0 ∷ 0 ∷ 1 ∷ 46 ∷ 105 ∷ 100 ∷ 97 ∷ 116 ∷ 97 ∷ 36 ∷ 51 ∷ 0 ∷ 0 ∷ 0 ∷ 0 ∷ 0 ∷ 0 ∷ 0 ∷ 0 ∷ 20 ∷ 0 ∷ 0 ∷ 0 ∷ 60 ∷ 0 ∷ 0 ∷ 0 ∷ 0 ∷ 0 ∷ 0 ∷ 0 ∷ 0 ∷ 0 ∷ 0 ∷ 0 ∷ 0 ∷ 0 ∷ 0 ∷ 0 ∷ 64 ∷ 0 ∷ 48 ∷ 192 ∷ 0 ∷ 0 ∷ 0 ∷ 0 ∷ 0 ∷ 0 ∷ 0 ∷ 0 ∷ 0 ∷ 0 ∷ 0 ∷ 0 ∷ 0 ∷ 0 ∷ 0 ∷ 0 ∷ 0 ∷ 0 ∷ 0 ∷ 0 ∷ 0 ∷ 0 ∷ 0 ∷ 0 ∷ 4 ∷ 0 ∷ 0 ∷ 0 ∷ 0 ∷ 0 ∷ 0 ∷ 0 ∷ 1 ∷ 0 ∷ 0 ∷ 0 ∷ 2 ∷ 0 ∷ 29 ∷ 0 ∷ 0 ∷ 0 ∷ 95 ∷ 95 ∷ 78 ∷ 85 ∷ 76 ∷ 76 ∷ 95 ∷ 73 ∷ 77 ∷ 80 ∷ 79 ∷ 82 ∷ 84 ∷ 95 ∷ 68 ∷ 69 ∷ 83 ∷ 67 ∷ 82 ∷ 73 ∷ 80 ∷ 84 ∷ 79 ∷ 82 ∷ 0 ∷ []))
+    × (encode (nullThunk armnt (ascii "a")) ≡ (196 ∷ 1 ∷ 2 ∷ 0 ∷ 0 ∷ 0 ∷ 0 ∷ 0 ∷ 108 ∷ 0 ∷ 0 ∷ 0 ∷ 1 ∷ 0 ∷ 0 ∷ 0 ∷ 0 ∷ 0 ∷ 0 ∷ 1 ∷ 46 ∷ 105 ∷ 100 ∷ 97 ∷ 116 ∷ 97 ∷ 36 ∷ 53 ∷ 0 ∷ 0 ∷ 0 ∷ 0 ∷ 0 ∷ 0 ∷ 0 ∷ 0 ∷ 4 ∷ 0 ∷ 0 ∷ 0 ∷ 100 ∷ 0 ∷ 0 ∷ 0 ∷ 0 ∷ 0 ∷ 0 ∷ 0 ∷ 0 ∷ 0 ∷ 0 ∷ 0 ∷ 0 ∷ 0 ∷ 0 ∷ 0 ∷ 64 ∷ 0 ∷ 48 ∷ 192 ∷ 46 ∷ 105 ∷ 100 ∷ 97 ∷ 116 ∷ 97 ∷ 36 ∷ 52 ∷ 0 ∷ 0 ∷ 0 ∷ 0 ∷ 0 ∷ 0 ∷ 0 ∷ 0 ∷ 4 ∷ 0 ∷ 0 ∷ 0 ∷ 104 ∷ 0 ∷ 0 ∷ 0 ∷ 0 ∷ 0 ∷ 0 ∷ 0 ∷ 0 ∷ 0 ∷ 0 ∷ 0 ∷ 0 ∷ 0 ∷ 0 ∷ 0 ∷ 64 ∷ 0 ∷ 48 ∷ 192 ∷ 0 ∷ 0 ∷ 0 ∷ 0 ∷ 0 ∷ 0 ∷ 0 ∷ 0 ∷ 0 ∷ 0 ∷ 0 ∷ 0 ∷ 4 ∷ 0 ∷ 0 ∷ 0 ∷ 0 ∷ 0 ∷ 0 ∷ 0 ∷ 1 ∷ 0 ∷ 0 ∷ 0 ∷ 2 ∷ 0 ∷ 23 ∷ 0 ∷ 0 ∷ 0 ∷ 127 ∷ 97 ∷ 95 ∷ 78 ∷ 85 ∷ 76 ∷ 76 ∷ 95 ∷ 84 ∷ 72 ∷ 85 ∷ 78 ∷ 75 ∷ 95 ∷ 68 ∷ 65 ∷ 84 ∷ 65 ∷ 0 ∷ []))
+    × (encode (nullThunk arm64 (ascii "a")) ≡ (100 ∷ 170 ∷ 2 ∷ 0 ∷ 0 ∷ 0 ∷ 0 ∷ 0 ∷ 116 ∷ 0 ∷ 0 ∷ 0 ∷ 1 ∷ 0 ∷ 0 ∷ 0 ∷ 0 ∷ 0 ∷ 0 ∷ 0 ∷ 46 ∷ 105 ∷ 100 ∷ 97 ∷ 116 ∷ 97 ∷ 36 ∷ 53 ∷ 0 ∷ 0 ∷ 0 ∷ 0 ∷ 0 ∷ 0 ∷ 0 ∷ 0 ∷ 8 ∷ 0 ∷ 0 ∷ 0 ∷ 100 ∷ 0 ∷ 0 ∷ 0 ∷ 0 ∷ 0 ∷ 0 ∷ 0 ∷ 0 ∷ 0 ∷ 0 ∷ 0 ∷ 0 ∷ 0 ∷ 0 ∷ 0 ∷ 64 ∷ 0 ∷ 64 ∷ 192 ∷ 46 ∷ 105 ∷ 100 ∷ 97 ∷ 116 ∷ 97 ∷ 36 ∷ 52 ∷ 0 ∷ 0 ∷ 0 ∷ 0 ∷ 0 ∷ 0 ∷ 0 ∷ 0 ∷ 8 ∷ 0 ∷ 0 ∷ 0 ∷ 108 ∷ 0 ∷ 0 ∷ 0 ∷ 0 ∷ 0 ∷ 0 ∷ 0 ∷ 0 ∷ 0 ∷ 0 ∷ 0 ∷ 0 ∷ 0 ∷ 0 ∷ 0 ∷ 64 ∷ 0 ∷ 64 ∷ 192 ∷ 0 ∷ 0 ∷ 0 ∷ 0 ∷ 0 ∷ 0 ∷ 0 ∷ 0 ∷ 0 ∷ 0 ∷ 0 ∷ 0 ∷ 0 ∷ 0 ∷ 0 ∷ 0 ∷ 0 ∷ 0 ∷ 0 ∷ 0 ∷ 4 ∷ 0 ∷ 0 ∷ 0 ∷ 0 ∷ 0 ∷ 0 ∷ 0 ∷ 1 ∷ 0 ∷ 0 ∷ 0 ∷ 2 ∷ 0 ∷ 23 ∷ 0 ∷ 0 ∷ 0 ∷ 127 ∷ 97 ∷ 95 ∷ 78 ∷ 85 ∷ 76 ∷ 76 ∷ 95 ∷ 84 ∷ 72 ∷ 85 ∷ 78 ∷ 75 ∷ 95 ∷ 68 ∷ 65 ∷ 84 ∷ 65 ∷ 0 ∷ []))
+    × (encode (weak i386 (ascii "t") (ascii "ab")) ≡ (76 ∷ 1 ∷ 1 ∷ 0 ∷ 0 ∷ 0 ∷ 0 ∷ 0 ∷ 60 ∷ 0 ∷ 0 ∷ 0 ∷ 5 ∷ 0 ∷ 0 ∷ 0 ∷ 0 ∷ 0 ∷ 0 ∷ 0 ∷ 46 ∷ 100 ∷ 114 ∷ 101 ∷ 99 ∷ 116 ∷ 118 ∷ 101 ∷ 0 ∷ 0 ∷ 0 ∷ 0 ∷ 0 ∷ 0 ∷ 0 ∷ 0 ∷ 0 ∷ 0 ∷ 0 ∷ 0 ∷ 0 ∷ 0 ∷ 0 ∷ 0 ∷ 0 ∷ 0 ∷ 0 ∷ 0 ∷ 0 ∷ 0 ∷ 0 ∷ 0 ∷ 0 ∷ 0 ∷ 0 ∷ 0 ∷ 0 ∷ 10 ∷ 0 ∷ 0 ∷ 64 ∷ 99 ∷ 111 ∷ 109 ∷ 112 ∷ 46 ∷ 105 ∷ 100 ∷ 0 ∷ 0 ∷ 0 ∷ 0 ∷ 255 ∷ 255 ∷ 0 ∷ 0 ∷ 3 ∷ 0 ∷ 64 ∷ 102 ∷ 101 ∷ 97 ∷ 116 ∷ 46 ∷ 48 ∷ 48 ∷ 0 ∷ 0 ∷ 0 ∷ 0 ∷ 255 ∷ 255 ∷ 0 ∷ 0 ∷ 3 ∷ 0 ∷ 0 ∷ 0 ∷ 0 ∷ 0 ∷ 4 ∷ 0 ∷ 0 ∷ 0 ∷ 0 ∷ 0 ∷ 0 ∷ 0 ∷ 0 ∷ 0 ∷ 0 ∷ 0 ∷ 2 ∷ 0 ∷ 0 ∷ 0 ∷ 0 ∷ 0 ∷ 6 ∷ 0 ∷ 0 ∷ 0 ∷ 0 ∷ 0 ∷ 0 ∷ 0 ∷ 0 ∷ 0 ∷ 0 ∷ 0 ∷ 105 ∷ 1 ∷ 2 ∷ 0 ∷ 0 ∷ 0 ∷ 3 ∷ 0 ∷ 0 ∷ 0 ∷ 0 ∷ 0 ∷ 0 ∷ 0 ∷ 0 ∷ 0 ∷ 0 ∷ 0 ∷ 0 ∷ 0 ∷ 9 ∷ 0 ∷ 0 ∷ 0 ∷ 116 ∷ 0 ∷ 97 ∷ 98 ∷ 0 ∷ []))
+unfolding Bytes.opened Machines.opened Exports.opened Names.opened Plan.opened Layouts.opened Library.opened Refusals.opened Reader.opened Lookup.opened Demands.opened Answers.opened
 table = (
+  refl,
+  refl,
+  refl,
+  refl,
+  refl,
+  refl,
+  refl,
+  refl,
+  refl,
+  refl,
+  refl,
+  refl,
+  refl,
+  refl,
+  refl,
+  refl,
+  refl,
+  refl,
+  refl,
+  refl,
+  refl,
+  refl,
+  refl,
+  refl,
+  refl,
+  refl,
+  refl,
+  refl,
+  refl,
+  refl,
+  refl,
+  refl,
+  refl,
+  refl,
+  refl,
+  refl,
+  refl,
+  refl,
+  refl,
+  refl,
+  refl,
+  refl,
+  refl,
+  refl,
+  refl,
+  refl,
+  refl,
+  refl,
+  refl,
+  refl,
+  refl,
+  refl,
+  refl,
+  refl,
+  refl,
+  refl,
+  refl,
+  refl,
+  refl,
+  refl,
+  refl,
+  refl,
+  refl,
+  refl,
   refl,
   refl,
   refl,

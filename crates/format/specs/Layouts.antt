@@ -1,4 +1,4 @@
--- 01, "Five layouts": the five members, and each one's bytes. Records, fields and constants have the PE Format document's names.
+-- 01, "Five layouts": the five members, and each one's bytes. Records, fields and constants have the names of the PE Format document and of winnt.h.
 use Prim.Native.Nat.{ℕ, _+_, _*_, _-_}
 use mathlib.Core.Bool.{Bool, true, false}
 use mathlib.Core.Option.{Option, none, some}
@@ -204,13 +204,32 @@ characteristics machine = if wide machine then 0 else IMAGE-FILE-32BIT-MACHINE
 abbrev pub idata : ℕ → ℕ
 idata alignment = alignment + IMAGE-SCN-CNT-INITIALIZED-DATA + IMAGE-SCN-MEM-READ + IMAGE-SCN-MEM-WRITE
 
+-- where a descriptor's relocations and its DLL name stand
+abbrev pub relocationsAt : ℕ
+relocationsAt = dataAt 2 + importDescriptorSize
+
+abbrev pub dllAt : ℕ
+dllAt = relocationsAt + 3 * relocationSize
+
+-- where each layout's symbols stand
+abbrev pub descriptorSymbolsAt : Bytes → ℕ
+descriptorSymbolsAt dll = dllAt + (length dll + 1)
+
+abbrev pub nullSymbolsAt : ℕ
+nullSymbolsAt = dataAt 1 + importDescriptorSize
+
+abbrev pub thunkSymbolsAt : ℕ → ℕ
+thunkSymbolsAt slot = dataAt 2 + slot + slot
+
+abbrev pub weakSymbolsAt : ℕ
+weakSymbolsAt = dataAt 1
+
+-- the import descriptor: a reference to the terminators, and the library's name
 unfoldable pub descriptorBytes : ℕ → Bytes → Bytes → Bytes → Bytes → Bytes
 descriptorBytes machine dll descriptor-name null-name thunk-name =
-    let relocationsAt = dataAt 2 + importDescriptorSize in
-    let dllAt = relocationsAt + 3 * relocationSize in
     let nullAt = stringsAt + (length descriptor-name + 1) in
     join (
-    fileHeader machine 2 (dllAt + (length dll + 1)) 7 (characteristics machine)
+    fileHeader machine 2 (descriptorSymbolsAt dll) 7 (characteristics machine)
     ∷ section (ascii ".idata$2") importDescriptorSize (dataAt 2) relocationsAt 3 (idata IMAGE-SCN-ALIGN-4BYTES)
     ∷ section (ascii ".idata$6") (length dll + 1) dllAt 0 0 (idata IMAGE-SCN-ALIGN-2BYTES)
     ∷ importDescriptor
@@ -228,20 +247,22 @@ descriptorBytes machine dll descriptor-name null-name thunk-name =
     ∷ stringTable (descriptor-name ∷ null-name ∷ thunk-name ∷ [])
     ∷ [])
 
+-- the null import descriptor, which ends the imports of a DLL
 unfoldable pub nullDescriptorBytes : ℕ → Bytes → Bytes
 nullDescriptorBytes machine null-name =
     join (
-    fileHeader machine 1 (dataAt 1 + importDescriptorSize) 1 (characteristics machine)
+    fileHeader machine 1 nullSymbolsAt 1 (characteristics machine)
     ∷ section (ascii ".idata$3") importDescriptorSize (dataAt 1) 0 0 (idata IMAGE-SCN-ALIGN-4BYTES)
     ∷ importDescriptor
     ∷ symbol (longName stringsAt) (pos 1) IMAGE-SYM-CLASS-EXTERNAL 0
     ∷ stringTable (null-name ∷ [])
     ∷ [])
 
+-- the null thunk, which ends the import lookup and address tables
 unfoldable pub nullThunkBytes : ℕ → ℕ → ℕ → Bytes → Bytes
 nullThunkBytes machine slot alignment thunk-name =
     join (
-    fileHeader machine 2 (dataAt 2 + slot + slot) 1 (characteristics machine)
+    fileHeader machine 2 (thunkSymbolsAt slot) 1 (characteristics machine)
     ∷ section (ascii ".idata$5") slot (dataAt 2) 0 0 (idata alignment)
     ∷ section (ascii ".idata$4") slot (dataAt 2 + slot) 0 0 (idata alignment)
     ∷ zeros slot
@@ -250,6 +271,7 @@ nullThunkBytes machine slot alignment thunk-name =
     ∷ stringTable (thunk-name ∷ [])
     ∷ [])
 
+-- the import object header
 unfoldable pub importHeader : ℕ → ℕ → ℕ → ℕ → Bytes
 importHeader machine size ordinal types =
     join (
@@ -263,6 +285,7 @@ importHeader machine size ordinal types =
     ∷ le16 types  -- Type, Name Type
     ∷ [])
 
+-- a short import: the header, and the names
 unfoldable pub shortBytes : ℕ → ℕ → ℕ → ℕ → Bytes → Bytes
 shortBytes machine ordinal kind type names = importHeader machine (length names) ordinal (type * 4 + kind) ++ names
 
@@ -270,10 +293,11 @@ shortBytes machine ordinal kind type names = importHeader machine (length names)
 unfoldable pub shortStrings : ℕ → Bytes → Bytes → Bytes → List Bytes
 shortStrings type s dll x = if eqb type 4 then s ∷ dll ∷ x ∷ [] else s ∷ dll ∷ []
 
+-- a weak external: its alias resolves to its target
 unfoldable pub weakBytes : ℕ → Bytes → Bytes → Bytes
 weakBytes machine target alias =
     join (
-    fileHeader machine 1 (dataAt 1) 5 0
+    fileHeader machine 1 weakSymbolsAt 5 0
     ∷ section (ascii ".drectve") 0 0 0 0 (IMAGE-SCN-LNK-INFO + IMAGE-SCN-LNK-REMOVE)
     ∷ symbol (ascii "@comp.id") IMAGE-SYM-ABSOLUTE IMAGE-SYM-CLASS-STATIC 0
     ∷ symbol (ascii "@feat.00") IMAGE-SYM-ABSOLUTE IMAGE-SYM-CLASS-STATIC 0

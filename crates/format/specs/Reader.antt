@@ -9,12 +9,22 @@ use lib.Dec.{eqb, leb, ltb}
 use Rattle.wire.specs.Bytes.{Bytes, if_then_else_, u16At, u32At, same, holds, before, part}
 use Rattle.format.specs.Machines.{known, hybrid, arm64x}
 use Rattle.format.specs.Names.{stem, barredDll}
-use Rattle.format.specs.Layouts.{Member, descriptor, nullDescriptor, nullThunk, short, weak, fileHeaderSize, sectionSize, relocationSize, symbolSize, importDescriptorSize, importHeaderSize, stringsAt, dataAt, descriptorName, nullName, thunkName, slotSize, encode}
+use Rattle.format.specs.Layouts.{Member, descriptor, nullDescriptor, nullThunk, short, weak, symbolSize, importHeaderSize, stringsAt, dllAt, descriptorSymbolsAt, nullSymbolsAt, thunkSymbolsAt, weakSymbolsAt, descriptorName, nullName, thunkName, slotSize, encode}
 use Rattle.format.specs.declared.Span.{Span}
 use Rattle.format.specs.declared.Read.{Read}
 use Rattle.format.specs.declared.Read.the-variants.{Descriptor, NullDescriptor, NullThunk, ShortImport, WeakExternal, Refused}
 
 -- ---- admitted members
+
+-- how long names may be: a DLL name or stem, a short import's symbol or export string, a weak external's
+abbrev pub maxStem : ℕ
+maxStem = 255
+
+abbrev pub maxSymbol : ℕ
+maxSymbol = 8190
+
+abbrev pub maxWeak : ℕ
+maxWeak = 8195
 
 -- a name of low to high bytes without NUL
 unfoldable pub between : ℕ → ℕ → Bytes → Bool
@@ -22,24 +32,25 @@ between low high s = leb low (length s) && leb (length s) high && not (holds 0 s
 
 -- DLL names as the writer does
 unfoldable pub admitsDll : Bytes → Bool
-admitsDll s = between 1 255 s && not (barredDll s)
+admitsDll s = between 1 maxStem s && not (barredDll s)
 
 unfoldable pub admitsStem : Option Bytes → Bool
 admitsStem none = true
-admitsStem (some s) = between 1 255 s
+admitsStem (some s) = between 1 maxStem s
 
 -- ARM64EC in short imports only, ARM64X nowhere
 abbrev pub ordinary : ℕ → Bool
 ordinary m = known m && not (hybrid m)
 
+-- types 0 to 4, kinds 0 to 2; an export string stands only under type 4
 unfoldable pub admits : Member → Bool
 admits (descriptor m dll compat) = ordinary m && admitsDll dll
 admits (nullDescriptor m s) = ordinary m && admitsStem s
-admits (nullThunk m s) = ordinary m && between 1 255 s
+admits (nullThunk m s) = ordinary m && between 1 maxStem s
 admits (short m o k t s dll x) =
     known m && not (eqb m arm64x) && ltb o 65536 && leb k 2 && leb t 4
-    && between 1 8190 s && admitsDll dll && between 0 (if eqb t 4 then 8190 else 0) x
-admits (weak m target alias) = ordinary m && between 1 8195 target && between 1 8195 alias
+    && between 1 maxSymbol s && admitsDll dll && between 0 (if eqb t 4 then maxSymbol else 0) x
+admits (weak m target alias) = ordinary m && between 1 maxWeak target && between 1 maxWeak alias
 
 -- ---- the meaning of reading: a member is read exactly where it is admitted and the bytes are its bytes
 
@@ -57,21 +68,18 @@ textAt b at = before 0 (drop at b)
 abbrev pub stringAfter : ℕ → ℕ → ℕ
 stringAfter symbolsAt symbols = symbolsAt + symbols * symbolSize + stringsAt
 
--- where the DLL name of a descriptor stands, and where the first string of each layout that has a string table
-abbrev pub dllAt : ℕ
-dllAt = dataAt 2 + importDescriptorSize + 3 * relocationSize
-
+-- where the first string of each layout stands that has a string table
 abbrev pub descriptorStringsAt : Bytes → ℕ
-descriptorStringsAt dll = stringAfter (dllAt + (length dll + 1)) 7
+descriptorStringsAt dll = stringAfter (descriptorSymbolsAt dll) 7
 
 abbrev pub nullStringsAt : ℕ
-nullStringsAt = stringAfter (dataAt 1 + importDescriptorSize) 1
+nullStringsAt = stringAfter nullSymbolsAt 1
 
 abbrev pub thunkStringsAt : ℕ → ℕ
-thunkStringsAt m = stringAfter (dataAt 2 + slotSize m + slotSize m) 1
+thunkStringsAt m = stringAfter (thunkSymbolsAt (slotSize m)) 1
 
 abbrev pub weakStringsAt : ℕ
-weakStringsAt = stringAfter (dataAt 1) 5
+weakStringsAt = stringAfter weakSymbolsAt 5
 
 -- under compat a descriptor is longer, by the stem
 unfoldable pub descriptorGuess : Bytes → Member
@@ -146,6 +154,23 @@ fields (short m o k t s dll x) =
 fields (weak m target alias) =
     WeakExternal m (span weakStringsAt (length target)) (span (weakStringsAt + (length target + 1)) (length alias))
 
+-- the names that went in, and the places that are returned for them
+unfoldable pub namesPut : Member → List Bytes
+namesPut (descriptor m dll compat) = dll ∷ stem dll ∷ []
+namesPut (nullDescriptor m none) = [] ∷ []
+namesPut (nullDescriptor m (some s)) = s ∷ []
+namesPut (nullThunk m s) = s ∷ []
+namesPut (short m o k t s dll x) = s ∷ dll ∷ (if eqb t 4 then x else []) ∷ []
+namesPut (weak m target alias) = target ∷ alias ∷ []
+
+unfoldable pub namesRead : Read → List Span
+namesRead (Descriptor m c dll s) = dll ∷ s ∷ []
+namesRead (NullDescriptor m c s) = s ∷ []
+namesRead (NullThunk m s) = s ∷ []
+namesRead (ShortImport m o t k s dll x) = s ∷ dll ∷ x ∷ []
+namesRead (WeakExternal m target alias) = target ∷ alias ∷ []
+namesRead (Refused number place) = []
+
 unfoldable pub fieldsOrRefused : Option Member → Read
 fieldsOrRefused none = Refused 16 0
 fieldsOrRefused (some m) = fields m
@@ -155,5 +180,5 @@ readFields b = fieldsOrRefused (read b)
 
 -- `unfolding opened` opens all of this module
 unfoldable pub opened : Unit {0}
-unfolding between admitsDll admitsStem admits textAt descriptorGuess nullGuess thunkGuess shortGuess weakGuess guess right read stemSpan fields fieldsOrRefused readFields
+unfolding between admitsDll admitsStem admits textAt descriptorGuess nullGuess thunkGuess shortGuess weakGuess guess right read stemSpan fields namesPut namesRead fieldsOrRefused readFields
 opened = tt

@@ -81,9 +81,12 @@ fieldRows b k f = stringRows b k (fieldAt k f) maxString (eqb f 0)
 unfoldable pub recordRows : Bytes → ℕ → List Row
 recordRows b k = row 9 k (ltb allFlags (u16At b (flagsAt k))) ∷ rowsFrom (fieldRows b k) 0 5
 
--- 2 to 10
+-- 5 to 10, and 2 to 10
+unfoldable pub restRows : Bytes → List Row
+restRows b = dllRows b ++ rowsFrom (recordRows b) 0 (bothCounts b)
+
 unfoldable pub listRows : Bytes → List Row
-listRows b = headerRows b ++ dllRows b ++ rowsFrom (recordRows b) 0 (bothCounts b)
+listRows b = headerRows b ++ restRows b
 
 -- ---- 11 to 14, record by record, private ones skipped
 
@@ -109,6 +112,10 @@ acceptRows o b = machineRows (o .machine) ++ listRows b ++ exportRows o b
 unfoldable pub roomRows : Options → Bytes → ℕ → List Row
 roomRows o b room = row 15 0 (ltb room (length (memberSet o b))) ∷ []
 
+-- 1 to 15
+unfoldable pub allRows : Options → Bytes → ℕ → List Row
+allRows o b room = acceptRows o b ++ roomRows o b room
+
 -- ---- what a check says: of refusals 2 to 10, of 1 to 14, of 1 to 15
 
 unfoldable pub checkList : Bytes → Checked
@@ -118,9 +125,9 @@ unfoldable pub checkExports : Options → Bytes → Checked
 checkExports o b = earliest (acceptRows o b)
 
 unfoldable pub checkAll : Options → Bytes → ℕ → Checked
-checkAll o b room = earliest (acceptRows o b ++ roomRows o b room)
+checkAll o b room = earliest (allRows o b room)
 
 -- `unfolding opened` opens all of this module
 unfoldable pub opened : Unit {0}
-unfolding earliest machineRows headerRows stringRows dllRows rowsFrom fieldRows recordRows listRows planRows nameRows exportRows acceptRows roomRows checkList checkExports checkAll
+unfolding earliest machineRows headerRows stringRows dllRows rowsFrom fieldRows recordRows restRows listRows planRows nameRows exportRows acceptRows roomRows allRows checkList checkExports checkAll
 opened = tt

@@ -16,12 +16,12 @@ use Rattle.format.specs.Exports.{Export, firstCount, nativeCount, bothCounts, n
 use Rattle.format.specs.Names.{barredDll}
 use Rattle.format.specs.Plan.{Plan, plain, deferred, refused, plan}
 use Rattle.format.specs.Library.{Options}
-use Rattle.format.specs.Refusals.{Row, row, earliest, maxCount, maxDll, maxString, machineRows, headerRows, stringRows, dllRows, rowsFrom, fieldRows, recordRows, listRows, planRows, nameRows, exportRows, acceptRows, checkExports}
+use Rattle.format.specs.Refusals.{Row, row, earliest, maxCount, maxDll, maxString, machineRows, headerRows, stringRows, dllRows, rowsFrom, fieldRows, recordRows, restRows, listRows, planRows, nameRows, exportRows, acceptRows, checkList, checkExports}
 use Rattle.format.specs.Shaped.{Shaped}
 use Rattle.format.specs.declared.Checked.{Checked}
 use Rattle.format.specs.declared.Checked.the-variants.{Fine, Refused}
 use Rattle.format.proofs.Rows.{fine-row, fine-rest, fine-before, fine-after, fine-at}
-use Rattle.format.proofs.Header.{header-shaped}
+use Rattle.format.proofs.Listed.{Listed, listed}
 
 -- ---- a string that passes refusals 5 to 8
 
@@ -155,29 +155,25 @@ pub record Accepted (o : Options) (b : Bytes) : Type 0 where
   pub firsts : (e : Export) → List·Memᴰ e (firstExports b) → Accepts (firstMachine (o .machine)) (o .mingw) e
   pub natives : (e : Export) → List·Memᴰ e (nativeExports b) → Accepts (nativeMachine (o .machine)) (o .mingw) e
 
+list-check : (b : Bytes) → earliest (listRows b) ≡ Fine → checkList b ≡ Fine
+unfolding checkList
+list-check b e = e
+
 pub accepted : (o : Options) (b : Bytes) → checkExports o b ≡ Fine → Accepted o b
-unfolding checkExports acceptRows machineRows listRows dllRows exportRows firstExports nativeExports
+unfolding checkExports acceptRows machineRows exportRows firstExports nativeExports
 accepted o b e =
     let machines : earliest (machineRows (o .machine) ++ listRows b) ≡ Fine = fine-before (machineRows (o .machine) ++ listRows b) (exportRows o b) e in
     let names : earliest (exportRows o b) ≡ Fine = fine-after (machineRows (o .machine) ++ listRows b) (exportRows o b) e in
-    let records = rowsFrom (recordRows b) 0 (bothCounts b) in
-    let lists : earliest (headerRows b ++ dllRows b ++ records) ≡ Fine = fine-after (machineRows (o .machine)) (listRows b) machines in
-    let header : earliest (headerRows b ++ dllRows b) ≡ Fine = fine-before (headerRows b ++ dllRows b) records lists in
-    let shape : Shaped b = header-shaped b (fine-before (headerRows b) (dllRows b) header) in
-    let dlls : earliest (dllRows b) ≡ Fine = fine-after (headerRows b) (dllRows b) header in
-    let string = stringRows b 0 dllField maxDll true in
-    let named : earliest string ≡ Fine = fine-before string (row 10 0 (barredDll (dllName b)) ∷ []) dlls in
+    let l : Listed b = listed b (list-check b (fine-after (machineRows (o .machine)) (listRows b) machines)) in
     let firstRows = rowsFrom (nameRows (firstMachine (o .machine)) (o .mingw) b) 0 (firstCount b) in
     let nativeRows = rowsFrom (nameRows (nativeMachine (o .machine)) (o .mingw) b) (firstCount b) (nativeCount b) in
-    let at : (i : ℕ) → i < bothCounts b → earliest (recordRows b i) ≡ Fine
-    = λ i h. fine-at (recordRows b) 0 (bothCounts b) i (fine-after (headerRows b ++ dllRows b) records lists) (omega arith) (omega arith) in
     record {
       machine = not-false (known (o .machine)) (fine-row _ _ (fine-before (machineRows (o .machine)) (listRows b) machines));
-      shape = shape;
-      dll = string-good b shape 0 dllField maxDll true named (string-required b shape 0 dllField maxDll true named refl);
-      unbarred = fine-row _ _ (fine-after string (row 10 0 (barredDll (dllName b)) ∷ []) dlls);
-      firsts = exports-accepted (firstMachine (o .machine)) (o .mingw) b shape 0 (firstCount b) (λ i l h. at i (omega arith))
+      shape = l .shape;
+      dll = string-good b (l .shape) 0 dllField maxDll true (l .dll) (string-required b (l .shape) 0 dllField maxDll true (l .dll) refl);
+      unbarred = l .unbarred;
+      firsts = exports-accepted (firstMachine (o .machine)) (o .mingw) b (l .shape) 0 (firstCount b) (λ i _ h. l .recorded i (omega arith))
           (λ i l h. fine-at _ 0 (firstCount b) i (fine-before firstRows nativeRows names) l h);
-      natives = exports-accepted (nativeMachine (o .machine)) (o .mingw) b shape (firstCount b) (nativeCount b) (λ i l h. at i (omega arith))
+      natives = exports-accepted (nativeMachine (o .machine)) (o .mingw) b (l .shape) (firstCount b) (nativeCount b) (λ i _ h. l .recorded i (omega arith))
           (λ i l h. fine-at _ (firstCount b) (nativeCount b) i (fine-after firstRows nativeRows names) l h);
     }

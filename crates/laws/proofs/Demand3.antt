@@ -6,10 +6,10 @@ use mathlib.Core.Bool.{Bool, true, false, _&&_, _||_, not}
 use mathlib.Core.Option.{Option, none, some, Option·getD, Option·none-ne-some}
 use mathlib.Core.List.{List, [], _∷_, _++_, map, List·Memᴰ, List·Memᴰ·head, List·Memᴰ·tail, List·Memᴰ·not-nil, List·Memᴰ·cases-cons, List·Memᴰ·append-cases, List·Memᴰ·eq-of-singleton, Memᴰ·append-left, Memᴰ·append-right, Memᴰ·map, Memᴰ·of-map}
 use native.Mathlib.Omega.{arith}
-use lib.ListN.{length, take}
+use lib.ListN.{length}
 use lib.Dec.{eqb}
 use borrow.Author.Tests.{eq-eqb, eqb-true}
-use Rattle.wire.specs.Bytes.{Bytes, Octets, ascii, if_then_else_, join}
+use Rattle.wire.specs.Bytes.{Bytes, Octets, if_then_else_, join}
 use Rattle.wire.proofs.Bytes.{join-within, within-join}
 use Rattle.format.specs.Machines.{arm64ec, firstMachine, nativeMachine}
 use Rattle.format.specs.Exports.{Export, dllName, firstExports, nativeExports}
@@ -18,12 +18,12 @@ use Rattle.format.specs.Layouts.{Member, descriptor, nullDescriptor, nullThunk,
 use Rattle.format.specs.Library.{Options, imp, answersTo, final, lastAnswering, shortMember, aliasMembers, aliasOrShort, deferredMember, shorts, deferreds, membersOf, firstMembers, nativeMembers, memberSet}
 use Rattle.format.specs.Refusals.{checkExports}
 use Rattle.format.specs.Lookup.{shown, symbols, among, listOf, lookupIn, lookupSet, lookup, Placed, readSet}
-use Rattle.format.specs.Demands.{Entry, byName, Where, notFound, nowhere, leads, meaning, asks, Leading, to, shortLeads, aliasLeads, leadings, Asked, Defines, Distinct, Plainly, Kept, Demand3}
+use Rattle.format.specs.Demands.{Entry, byName, Where, notFound, nowhere, leads, meaning, asks, Leading, to, shortLeads, aliasLeads, leadings, Asked, Defines, Distinct, Plainly, Kept, Closed, Demand3, Promised}
 use Rattle.format.specs.declared.Checked.the-variants.{Fine}
 use Rattle.laws.proofs.Accepted.{Accepts, Accepted, accepted}
 use Rattle.laws.proofs.Plans.{PlanBounds, of-plain, of-deferred, of-refused, DeferredBounds, plan-bounds}
 use Rattle.laws.proofs.Members.{Answering, last-answering}
-use Rattle.laws.proofs.Sets.{Stands, Listed, placed, written-read, first-listed, native-listed}
+use Rattle.laws.proofs.Sets.{Stands, Listed, placed, written-read, readBack, first-listed, native-listed}
 use Rattle.laws.proofs.Leads.{entryOf, definerIn, stepsTo, leadsBy, leadsIn, lookupIn-means}
 use Rattle.laws.proofs.Asks.{asks-plain, asks-deferred}
 use Rattle.laws.proofs.Definers.{member-among, among-member, finds, definer-defines, short-leads, weak-leads, undefined}
@@ -170,9 +170,6 @@ module _ (machine : ℕ) (mingw : Bool) (dll : Bytes) (es : List Export) where
       pick true n i = inl (List·Memᴰ·eq-of-singleton i)
       pick false n i = ⊎-elim (λ e. inl e) (λ j. inr (n, List·Memᴰ·eq-of-singleton j)) (List·Memᴰ·cases-cons i)
 
-  imp-begins : (f s : Bytes) → f ≡ imp s → take 6 f ≡ ascii "__imp_"
-  imp-begins f s e = rw e
-
   module _ (goods : (e : Export) → List·Memᴰ e es → Accepts machine mingw e) (distinct : Distinct ms) (plainly : Plainly es) where
     -- ---- an alias of the import a, whose short import has the final name f
 
@@ -199,7 +196,7 @@ module _ (machine : ℕ) (mingw : Bool) (dll : Bytes) (es : List Export) where
           let h′ : Defines f (short machine o k t′ s d x′) = subst (λ (n : ℕ). Defines f (short n o k t′ s d x′)) q h in
           let j′ : List·Memᴰ (short machine o k t′ s d x′) ms = subst (λ (n : ℕ). List·Memᴰ (short n o k t′ s d x′) ms) q j in
           ⊎-elim
-          (λ p. plainly .unprefixed a f i (plain-public machine mingw a f x t m r) (imp-begins f s p))
+          (λ p. plainly .unprefixed a s i (plain-public machine mingw a f x t m r ∙ ap some p))
           (λ p. twice o k t′ s d x′ j′ (p .0) (p .1))
           (defined-by o k t′ s f d x′ m h′)
         where
@@ -345,27 +342,33 @@ module _ (machine : ℕ) (mingw : Bool) (dll : Bytes) (es : List Export) where
 -- ---- from the written bytes
 
 -- a list of a set that is read, with its members
-list-kept : (set : Bytes) (number machine : ℕ) (mingw : Bool) (dll : Bytes) (es : List Export) (ps : List Placed) → readSet set ≡ some ps
-    → Listed set number ps (membersOf machine mingw dll es) → ((e : Export) → List·Memᴰ e es → Accepts machine mingw e)
-    → Distinct (membersOf machine mingw dll es) → Plainly es → Kept set number machine mingw es
-unfolding lookup lookupSet
-list-kept set number machine mingw dll es ps r l goods d p =
-    record {
-      led = λ a i. means (a .symbol) ∙ list-led machine mingw dll es goods d p a i;
-      others = λ s h. means s ∙ list-others machine mingw dll es s h;
-    }
-  where
-    means : (s : Bytes) → meaning set (lookup set number s) ≡ leadsIn (membersOf machine mingw dll es) s
-    means s = rw r (lookupIn-means set (listOf set number ps) (l .stand) s ∙ ap (λ (ms : List Member). leadsIn ms s) (l .members))
+module _ (set : Bytes) (number machine : ℕ) (mingw : Bool) (dll : Bytes) (es : List Export) (ps : List Placed) (r : readSet set ≡ some ps)
+    (l : Listed set number ps (membersOf machine mingw dll es)) where
+  means : (s : Bytes) → meaning set (lookup set number s) ≡ leadsIn (membersOf machine mingw dll es) s
+  unfolding lookup lookupSet
+  means s = rw r (lookupIn-means set (listOf set number ps) (l .stand) s ∙ ap (λ (ms : List Member). leadsIn ms s) (l .members))
 
-pub demand3 : (o : Options) (b : Bytes) → Demand3 o b
+  list-kept : ((e : Export) → List·Memᴰ e es → Accepts machine mingw e) → Distinct (membersOf machine mingw dll es) → Plainly es → Kept set number machine mingw es
+  list-kept goods d p = record { led = λ a i. means (a .symbol) ∙ list-led machine mingw dll es goods d p a i }
+
+  list-closed : Closed set number machine mingw es
+  list-closed = record { others = λ s h. means s ∙ list-others machine mingw dll es s h }
+
+pub demand3 : (o : Options) (b : Bytes) → Octets b → checkExports o b ≡ Fine → Demand3 o b
 unfolding firstMembers nativeMembers
-demand3 o b =
+demand3 o b small e =
+    let read = written-read o b small e in
+    let one = first-listed o b small e in
+    let two = native-listed o b small e in
+    let m₁ = firstMachine (o .machine) in
+    let m₂ = nativeMachine (o .machine) in
     record {
-      first = λ small e d p.
-          list-kept (memberSet o b) 1 (firstMachine (o .machine)) (o .mingw) (dllName b) (firstExports b) _ (written-read o b small e) (first-listed o b small e)
-          (accepted o b e .firsts) d p;
-      native = λ small e d p.
-          list-kept (memberSet o b) 2 (nativeMachine (o .machine)) (o .mingw) (dllName b) (nativeExports b) _ (written-read o b small e) (native-listed o b small e)
-          (accepted o b e .natives) d p;
+      first = λ d p. list-kept (memberSet o b) 1 m₁ (o .mingw) (dllName b) (firstExports b) _ read one (accepted o b e .firsts) d p;
+      native = λ d p. list-kept (memberSet o b) 2 m₂ (o .mingw) (dllName b) (nativeExports b) _ read two (accepted o b e .natives) d p;
+      firstClosed = list-closed (memberSet o b) 1 m₁ (o .mingw) (dllName b) (firstExports b) _ read one;
+      nativeClosed = list-closed (memberSet o b) 2 m₂ (o .mingw) (dllName b) (nativeExports b) _ read two;
     }
+
+-- demands 2 and 3 of every list of bytes that is accepted
+pub promised : (o : Options) (b : Bytes) → Promised o b
+promised o b = record { readBack = readBack o b; leading = demand3 o b }

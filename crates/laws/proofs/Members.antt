@@ -19,11 +19,10 @@ use Rattle.format.specs.Layouts.{Member, descriptor, nullDescriptor, nullThunk,
 use Rattle.format.specs.Library.{Options, imp, answersTo, final, lastAnswering, shortMember, aliasMembers, aliasOrShort, deferredMember, shorts, deferreds, membersOf, fixedMembers, firstMembers, nativeMembers, allMembers}
 use Rattle.format.specs.Refusals.{maxDll, maxString, checkExports}
 use Rattle.format.specs.Reader.{between, admitsDll, admitsStem, ordinary, admits}
-use Rattle.format.specs.Demands.{ReadBack}
 use Rattle.format.specs.declared.Checked.the-variants.{Fine}
 use Rattle.laws.proofs.Accepted.{Good, GoodExport, Accepts, Accepted, accepted}
 use Rattle.laws.proofs.Names.{last-at}
-use Rattle.laws.proofs.ReadBack.{known-each, read-back}
+use Rattle.laws.proofs.ReadBack.{known-each}
 use Rattle.laws.proofs.Plans.{Clear, maxPublic, maxFinal, kind-small, PlainBounds, DeferredBounds, PlanBounds, of-plain, of-deferred, of-refused, plan-bounds}
 
 -- ---- names between limits
@@ -309,7 +308,3 @@ all-admitted o b small e m i =
     (λ j. ⊎-elim (fixed-admitted o b a m) (first-admitted o b small a m) (List·Memᴰ·append-cases (fixedMembers o b) j))
     (native-admitted o b small a m)
     (List·Memᴰ·append-cases (fixedMembers o b ++ firstMembers o b) i)
-
--- demand 2's last half: what was put in comes back
-pub readBack : (o : Options) (b : Bytes) → ReadBack o b
-readBack o b = record { back = λ small e m i. read-back m (all-admitted o b small e m i) }

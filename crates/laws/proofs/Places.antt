@@ -3,7 +3,7 @@ use Prim.Native.Nat.{ℕ, _+_}
 use mathlib.Core.Path.{_≡_, refl, sym, ap, _∙_}
 use mathlib.Core.Bool.{Bool, true, false}
 use mathlib.Core.Option.{Option, none, some}
-use mathlib.Core.List.{List, [], _∷_, _++_, append-nil, append-assoc}
+use mathlib.Core.List.{List, [], _∷_, _++_, map, append-nil, append-assoc}
 use native.Mathlib.Omega.{arith}
 use lib.ListN.{length, drop}
 use lib.Seq.{drop-drop}
@@ -12,11 +12,10 @@ use Rattle.wire.specs.Bytes.{Bytes, ascii, if_then_else_, part, join}
 use Rattle.wire.proofs.Bytes.{drop-past, part-seam}
 use Rattle.format.specs.Machines.{wide}
 use Rattle.format.specs.Names.{stem}
-use Rattle.format.specs.Layouts.{Member, descriptor, nullDescriptor, nullThunk, short, weak, importHeaderSize, dataAt, fileHeader, section, reloc, symbol, importDescriptor, longName, auxiliary, strings, stringTable, descriptorName, nullName, thunkName, compatStem, descriptorBytes, nullDescriptorBytes, nullThunkBytes, importHeader, shortBytes, shortStrings, weakBytes, slotSize, slotAlignment, encode}
-use Rattle.format.specs.Reader.{stringAfter, dllAt, descriptorStringsAt, nullStringsAt, thunkStringsAt, weakStringsAt, span, absent, stemSpan, fields}
+use Rattle.format.specs.Layouts.{Member, descriptor, nullDescriptor, nullThunk, short, weak, importHeaderSize, dataAt, dllAt, fileHeader, section, reloc, symbol, importDescriptor, longName, auxiliary, strings, stringTable, descriptorName, nullName, thunkName, compatStem, descriptorBytes, nullDescriptorBytes, nullThunkBytes, importHeader, shortBytes, shortStrings, weakBytes, slotSize, slotAlignment, encode}
+use Rattle.format.specs.Reader.{stringAfter, descriptorStringsAt, nullStringsAt, thunkStringsAt, weakStringsAt, span, absent, stemSpan, fields, namesPut, namesRead}
+use Rattle.format.specs.Demands.{shownAt}
 use Rattle.format.specs.declared.Span.{Span}
-use Rattle.format.specs.declared.Read.{Read}
-use Rattle.format.specs.declared.Read.the-variants.{Descriptor, NullDescriptor, NullThunk, ShortImport, WeakExternal}
 
 -- ---- strings from a place on: the first, and those after it
 
@@ -143,38 +142,40 @@ module _ (m : ℕ) (target alias : Bytes) where
   pub part-encode-weak-alias : part (encode (weak m target alias)) (weakStringsAt + (length target + 1)) (length alias) ≡ alias
   part-encode-weak-alias = part-strings weak-bytes (weakStringsAt + (length target + 1)) alias [] drop-encode-weak-alias
 
--- ---- what the reader returns of a member is what was put in
+-- ---- what the reader returns: each name that was put in, at its place
 
--- a name stands in the bytes where a span says
-abbrev pub Holds : Bytes → Span → Bytes → Type 0
-Holds b p s = part b (p .start) (p .length) ≡ s
+three : (f : Span → Bytes) (p q r : Span) (x y z : Bytes) → f p ≡ x → f q ≡ y → f r ≡ z → map f (p ∷ q ∷ r ∷ []) ≡ x ∷ y ∷ z ∷ []
+three f p q r x y z e g h = rw (e, g, h)
 
-pub data Returned (b : Bytes) : Member → Read → Type 0 where
-  of-descriptor : {m : ℕ} {dll : Bytes} {compat : Bool} {p q : Span} → Holds b p dll → Holds b q (stem dll)
-      → Returned b (descriptor m dll compat) (Descriptor m compat p q)
-  of-null : {m : ℕ} → Returned b (nullDescriptor m none) (NullDescriptor m false absent)
-  of-null-stem : {m : ℕ} {s : Bytes} {p : Span} → Holds b p s → Returned b (nullDescriptor m (some s)) (NullDescriptor m true p)
-  of-thunk : {m : ℕ} {s : Bytes} {p : Span} → Holds b p s → Returned b (nullThunk m s) (NullThunk m p)
-  of-short : {m o k t : ℕ} {s dll x : Bytes} {p q : Span} → eqb t 4 ≡ false → Holds b p s → Holds b q dll
-      → Returned b (short m o k t s dll x) (ShortImport m o t k p q absent)
-  of-short-exported : {m o k t : ℕ} {s dll x : Bytes} {p q r : Span} → eqb t 4 ≡ true → Holds b p s → Holds b q dll → Holds b r x
-      → Returned b (short m o k t s dll x) (ShortImport m o t k p q r)
-  of-weak : {m : ℕ} {target alias : Bytes} {p q : Span} → Holds b p target → Holds b q alias → Returned b (weak m target alias) (WeakExternal m p q)
+two : (f : Span → Bytes) (p q : Span) (x y : Bytes) → f p ≡ x → f q ≡ y → map f (p ∷ q ∷ []) ≡ x ∷ y ∷ []
+two f p q x y e g = rw (e, g)
 
-pub fields-returned : (m : Member) → Returned (encode m) m (fields m)
-unfolding fields stemSpan
-fields-returned (descriptor m dll compat) = of-descriptor (part-encode-descriptor-dll m dll compat) (part-encode-descriptor-stem m dll compat)
-fields-returned (nullDescriptor m none) = of-null
-fields-returned (nullDescriptor m (some s)) = of-null-stem (part-encode-nullDescriptor m s)
-fields-returned (nullThunk m s) = of-thunk (part-encode-nullThunk m s)
-fields-returned (short m o k t s dll x) = pick (eqb t 4) refl
+one : (f : Span → Bytes) (p : Span) (x : Bytes) → f p ≡ x → map f (p ∷ []) ≡ x ∷ []
+one f p x e = rw e
+
+nothing-shown : (b : Bytes) → shownAt b absent ≡ []
+unfolding part
+nothing-shown b = refl
+
+pub fields-shown : (m : Member) → map (shownAt (encode m)) (namesRead (fields m)) ≡ namesPut m
+unfolding fields stemSpan namesRead namesPut
+fields-shown (descriptor m dll compat) =
+    two (shownAt (encode (descriptor m dll compat))) _ _ dll (stem dll) (part-encode-descriptor-dll m dll compat) (part-encode-descriptor-stem m dll compat)
+fields-shown (nullDescriptor m none) = one (shownAt (encode (nullDescriptor m none))) absent [] (nothing-shown (encode (nullDescriptor m none)))
+fields-shown (nullDescriptor m (some s)) = one (shownAt (encode (nullDescriptor m (some s)))) _ s (part-encode-nullDescriptor m s)
+fields-shown (nullThunk m s) = one (shownAt (encode (nullThunk m s))) _ s (part-encode-nullThunk m s)
+fields-shown (short m o k t s dll x) = pick (eqb t 4) refl
   where
     pick : (q : Bool) → eqb t 4 ≡ q
-        → Returned (encode (short m o k t s dll x)) (short m o k t s dll x)
-        (ShortImport m o t k (span importHeaderSize (length s)) (span (importHeaderSize + (length s + 1)) (length dll))
-        (if q then span (importHeaderSize + (length s + 1) + (length dll + 1)) (length x) else absent))
+        → map (shownAt (encode (short m o k t s dll x)))
+        (span importHeaderSize (length s) ∷ span (importHeaderSize + (length s + 1)) (length dll)
+        ∷ (if q then span (importHeaderSize + (length s + 1) + (length dll + 1)) (length x) else absent) ∷ [])
+        ≡ s ∷ dll ∷ (if q then x else []) ∷ []
     pick true q =
-        of-short-exported q (part-encode-short-symbol m o k t s dll x) (part-encode-short-dll m o k t s dll x)
+        three (shownAt (encode (short m o k t s dll x))) _ _ _ s dll x (part-encode-short-symbol m o k t s dll x) (part-encode-short-dll m o k t s dll x)
         (part-encode-short-exported m o k t s dll x q)
-    pick false q = of-short q (part-encode-short-symbol m o k t s dll x) (part-encode-short-dll m o k t s dll x)
-fields-returned (weak m target alias) = of-weak (part-encode-weak-target m target alias) (part-encode-weak-alias m target alias)
+    pick false q =
+        three (shownAt (encode (short m o k t s dll x))) _ _ absent s dll [] (part-encode-short-symbol m o k t s dll x) (part-encode-short-dll m o k t s dll x)
+        (nothing-shown (encode (short m o k t s dll x)))
+fields-shown (weak m target alias) =
+    two (shownAt (encode (weak m target alias))) _ _ target alias (part-encode-weak-target m target alias) (part-encode-weak-alias m target alias)

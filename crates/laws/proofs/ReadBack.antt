@@ -13,12 +13,12 @@ use Rattle.wire.specs.Bytes.{Bytes, ascii, if_then_else_, u16At, u32At, part, j
 use Rattle.wire.proofs.Bytes.{and-first, and-each, or-either, not-true, same-refl, same-eq, holds-neither, before-seam, le16-back}
 use Rattle.format.specs.Machines.{i386, armnt, amd64, arm64, arm64ec, arm64x, known}
 use Rattle.format.specs.Names.{stem}
-use Rattle.format.specs.Layouts.{Member, descriptor, nullDescriptor, nullThunk, short, weak, importHeaderSize, fileHeader, strings, nullName, thunkName, descriptorBytes, nullDescriptorBytes, nullThunkBytes, importHeader, shortBytes, weakBytes, encode}
-use Rattle.format.specs.Reader.{between, admitsDll, admitsStem, ordinary, admits, Reads, textAt, dllAt, nullStringsAt, thunkStringsAt, weakStringsAt, descriptorGuess, nullGuess, thunkGuess, shortGuess, weakGuess, guess, right, read, fieldsOrRefused, readFields}
+use Rattle.format.specs.Layouts.{Member, descriptor, nullDescriptor, nullThunk, short, weak, importHeaderSize, dllAt, fileHeader, strings, nullName, thunkName, descriptorBytes, nullDescriptorBytes, nullThunkBytes, importHeader, shortBytes, weakBytes, encode}
+use Rattle.format.specs.Reader.{between, admitsDll, admitsStem, ordinary, admits, Reads, textAt, nullStringsAt, thunkStringsAt, weakStringsAt, descriptorGuess, nullGuess, thunkGuess, shortGuess, weakGuess, guess, right, read, fieldsOrRefused, readFields}
 use Rattle.format.specs.Demands.{Demand2}
 use Rattle.format.specs.declared.Read.{Read}
 use Rattle.laws.proofs.Lengths.{length-thunkName, length-encode-descriptor}
-use Rattle.laws.proofs.Places.{drop-encode-descriptor-dll, drop-encode-nullDescriptor, drop-encode-nullThunk, drop-encode-short, drop-encode-short-dll, drop-encode-short-exported, drop-encode-weak, drop-encode-weak-alias, Returned, fields-returned}
+use Rattle.laws.proofs.Places.{drop-encode-descriptor-dll, drop-encode-nullDescriptor, drop-encode-nullThunk, drop-encode-short, drop-encode-short-dll, drop-encode-short-exported, drop-encode-weak, drop-encode-weak-alias, fields-shown}
 
 -- ---- machines
 
@@ -297,16 +297,16 @@ reads-none b e m r = let z : _≡_ {A = ℕ} 0 1 = cc (read-complete b m r) in o
 pub reads-once : (b : Bytes) (m n : Member) → Reads b m → Reads b n → m ≡ n
 reads-once b m n r s = encode-injective m n (r .admitted) (s .admitted) (r .is ∙ sym (s .is))
 
--- the answer is what was put in: each name stands in the bytes where it says
-pub readFields-returned : (b : Bytes) (m : Member) → Reads b m → Returned b m (readFields b)
-unfolding readFields fieldsOrRefused
-readFields-returned b m r = rw (read-complete b m r) (rw (r .is) at (fields-returned m))
-
 -- ---- demand 2: the reader's definition meets it, and no other answer does
 
 pub demand2 : (b : Bytes) → Demand2 b (readFields b)
 unfolding readFields fieldsOrRefused
-demand2 b = record { accepts = λ m r. rw (read-complete b m r); refuses = λ h. rw (read-none b h) }
+demand2 b =
+    record {
+      accepts = λ m r. rw (read-complete b m r);
+      refuses = λ h. rw (read-none b h);
+      returns = λ m r. rw (read-complete b m r, ← r .is) (fields-shown m);
+    }
 
 pub demand2-once : (b : Bytes) (r r′ : Read) → Demand2 b r → Demand2 b r′ → r ≡ r′
 demand2-once b r r′ d d′ = pick (read b) refl

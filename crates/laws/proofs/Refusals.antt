@@ -16,9 +16,9 @@ use Rattle.format.specs.Exports.{Export, noname}
 use Rattle.format.specs.Names.{hash, question, underscore, at-sign, apply, plainType, tagged, demangle}
 use Rattle.format.specs.Plan.{Plan, plain, deferred, refused, Choice, typed, later, base, kind, publicName, ecCode, free, choose, chooseNamed, chooseImport, exporting, mangled, planChoice, planPublic, plan}
 use Rattle.format.specs.Library.{Options, memberSet}
-use Rattle.format.specs.Refusals.{Row, row, earliest, acceptRows, roomRows, checkAll}
+use Rattle.format.specs.Refusals.{Row, row, earliest, allRows, checkAll}
 use Rattle.format.specs.Answers.{total, written, leaves, outputAfter}
-use Rattle.format.specs.Demands.{Earliest, given-here, given-later, NoneGiven, no-row, not-this, rows, Demand1}
+use Rattle.format.specs.Demands.{Earliest, given-here, given-later, NoneGiven, no-row, not-this, Demand1}
 use Rattle.format.specs.declared.Checked.{Checked}
 use Rattle.format.specs.declared.Checked.the-variants.{Fine, Refused}
 use Rattle.format.specs.declared.Written.{Written}
@@ -84,7 +84,7 @@ demand1-once o b out r r′ out′ out″ d d′ =
     let (e, f) = d .succeeds n in
     let (e′, f′) = d′ .succeeds n in
     (e ∙ sym e′, f ∙ sym f′))
-    (given-or-none (rows o b out))
+    (given-or-none (allRows o b (length out)))
 
 -- ---- 11 to 14 in the table's words
 

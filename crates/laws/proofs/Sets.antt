@@ -20,6 +20,7 @@ use Rattle.format.specs.Library.{Options, imp, final, lastAnswering, shortMembe
 use Rattle.format.specs.Reader.{admits, read}
 use Rattle.format.specs.Refusals.{checkExports}
 use Rattle.format.specs.Lookup.{Placed, offsetAt, lengthAt, setCount, setFirsts, setNatives, backToBack, laidOut, placeFirst, readFrom, rank, ordered, ifOrdered, readSet, listOf}
+use Rattle.format.specs.Demands.{ReadBack}
 use Rattle.format.specs.declared.Checked.the-variants.{Fine}
 use Rattle.laws.proofs.ReadBack.{read-back}
 use Rattle.laws.proofs.Members.{all-admitted}
@@ -276,6 +277,21 @@ module _ (o : Options) (b : Bytes) where
   pub written-firsts : Octets b → checkExports o b ≡ Fine → setFirsts (memberSet o b) ≡ length (firstMembers o b)
   unfolding memberSet
   written-firsts small e = set-firsts (length (firstMembers o b)) (length (nativeMembers o b)) (allMembers o b) members-counted (total-small o b small e)
+
+  pub written-natives : Octets b → checkExports o b ≡ Fine → setNatives (memberSet o b) ≡ length (nativeMembers o b)
+  unfolding memberSet
+  written-natives small e = set-natives (length (firstMembers o b)) (length (nativeMembers o b)) (allMembers o b) members-counted (total-small o b small e)
+
+  -- the last half of demand 2
+  pub readBack : Octets b → checkExports o b ≡ Fine → ReadBack o b
+  readBack small e =
+      record {
+        back = λ m i. read-back m (all-admitted o b small e m i);
+        members = rw (written-read small e) (ap some (placed-members firstPlace (allMembers o b)));
+        firsts = written-firsts small e;
+        natives = written-natives small e;
+        fits = total-small o b small e;
+      }
 
 -- ---- its two lists
 

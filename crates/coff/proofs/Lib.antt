@@ -1,0 +1,5 @@
+-- Laws of the machines' table, of section numbers and of the records' fields; that each record's reader undoes its writer.
+pub mod Table
+pub mod Words
+pub mod Fields
+pub mod ReadBack

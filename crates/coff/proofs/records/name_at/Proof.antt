@@ -1,0 +1,18 @@
+-- `coff::records::name_at` meets its contract.
+use native.Mathlib.Nat.{add-zero}
+use Rattle.coff.proofs.Fields.{cells-part}
+use borrow.Author.Needs.{needs}
+use Rattle.coff.proofs.records.name_at.Statement.{statement}
+use Rattle.coff.proofs.records.name_at.Tie as tie
+
+returns : tie.Need-returns
+returns c =
+    let s = c .before .before .before .before .before .before .before .before in
+    rw add-zero at (cells-part 8 (s .args .b .now) (s .args .at) (s .pre))
+
+pub name-at-spec : {M : Type 1} → statement M
+name-at-spec =
+    tie.close
+    (tie.spec (λ c. search needs) (λ c. search needs) (λ c. search needs) (λ c. search needs) (λ c. search needs)
+    (λ c. search needs) (λ c. search needs) (λ c. search needs) (λ c. search needs) (λ c. search needs) (λ c. search needs)
+    (λ c. search needs) (λ c. search needs) (λ c. search needs) (λ c. search needs) returns)

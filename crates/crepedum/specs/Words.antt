@@ -1,0 +1,9 @@
+-- The answers as numbers that cross to other languages.
+use Prim.Native.Nat.{ℕ, _+_, _*_}
+use Rattle.format.specs.declared.Checked.{Checked}
+use Rattle.format.specs.declared.Checked.the-variants.{Fine, Refused}
+
+-- 0, or the refusal's number times 2^32, plus its place
+abbrev pub checkWord : Checked → ℕ
+checkWord Fine = 0
+checkWord (Refused number place) = number * 4294967296 + place

@@ -1,0 +1,12 @@
+-- `lists::held_in` meets its contract.
+use borrow.Author.Needs.{needs}
+use mathlib.Core.Path.{ap, _∙_}
+use Rattle.wire.specs.Bytes.{Bytes, holds}
+use Rattle.lists.proofs.held_in.Statement.{statement}
+use Rattle.lists.proofs.held_in.Tie as tie
+
+returns : tie.Need-returns
+returns c = c .holds .ensures ∙ ap (λ (s : Bytes). holds (c .before .before .before .args .c) s) (c .before .part .ensures)
+
+pub held-in-spec : {M : Type 1} → statement M
+held-in-spec = tie.close (tie.spec (λ c κs. search needs) (λ c κs. search needs) returns)

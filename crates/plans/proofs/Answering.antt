@@ -1,0 +1,145 @@
+-- Laws of keys: the backward scan over the records gives the last import that answers, as the definition has it over the exports.
+use Prim.Native.Nat.{ℕ, zero, suc, _+_, _-_, _≤_, _<_}
+use mathlib.Core.Path.{_≡_, refl, sym, ap, _∙_}
+use mathlib.Core.Bool.{Bool, true, false}
+use mathlib.Core.Option.{Option, none, some, Option·map}
+use mathlib.Core.List.{List, [], _∷_}
+use native.Mathlib.Nat.{add-zero}
+use native.Mathlib.Omega.{arith}
+use lib.Dec.{eqb}
+use lib.ListN.{length}
+use borrow.Author.Tests.{ne-eqb}
+use Rattle.wire.specs.Bytes.{Bytes, if_then_else_, same, orElse}
+use Rattle.format.specs.Machines.{arm64ec}
+use Rattle.format.specs.Names.{hash, apply}
+use Rattle.format.specs.Exports.{Export, isPrivate, exportAt, exportsFrom}
+use Rattle.format.specs.Plan as P
+use Rattle.format.specs.Plan.{Plan, Choice, publicName, choose, planChoice, planPublic, plan}
+use Rattle.format.specs.Library.{answersTo, lastAnswering}
+use Rattle.coff.specs.Import.{typeNumber}
+use Rattle.plans.specs.Shape.{sourceOf, shaped}
+use Rattle.plans.specs.Keys.{keyAt, lastIn}
+use Rattle.plans.specs.declared.Shape.{Shape}
+use Rattle.plans.specs.declared.Shape.the-variants as H
+
+-- ---- one record
+
+-- off ARM64EC the final name is the public name
+choice-final : (machine : ℕ) (e : Export) (p f x : Bytes) (t : ℕ) (q : Choice) → (machine ≡ arm64ec → ⊥) → planChoice machine e p q ≡ P.plain f t x → f ≡ p
+unfolding planChoice
+choice-final machine e p f x t (P.later w) m h = cc
+choice-final machine e p f x t (P.typed t₀ x₀) m h = same-name (rw (ne-eqb machine arm64ec m) at h)
+  where
+    same-name : P.plain p t₀ x₀ ≡ P.plain f t x → f ≡ p
+    same-name h = cc
+
+pub public-final : (machine : ℕ) (mingw : Bool) (e : Export) (p f x : Bytes) (t : ℕ) → (machine ≡ arm64ec → ⊥) → planPublic machine mingw e (some p) ≡ P.plain f t x → f ≡ p
+unfolding planPublic
+public-final machine mingw e [] f x t m h = cc
+public-final machine mingw e (c ∷ cs) f x t m h = choice-final machine e (c ∷ cs) f x t (choose machine mingw e (c ∷ cs)) m h
+
+pub key-short : (machine : ℕ) (mingw : Bool) (e : Export) (p w : Bytes) (h : Bool) (t : _) (s : _) (r : Bool) → (machine ≡ arm64ec → ⊥)
+    → shaped e p (H.Short h t s) ≡ planPublic machine mingw e (some p) → r ≡ same (apply (typeNumber t) p) w → r ≡ answersTo w (planPublic machine mingw e (some p))
+unfolding shaped answersTo
+key-short machine mingw e p w h t s r m g k =
+    let f : (if h then hash ∷ p else p) ≡ p = public-final machine mingw e p _ _ _ m (sym g) in
+    rw (← g, f) k
+
+pub key-deferred : (e : Export) (p w : Bytes) (q : Plan) → shaped e p H.Deferred ≡ q → false ≡ answersTo w q
+unfolding shaped answersTo
+key-deferred e p w q g = rw (← g)
+
+pub key-refused : (n : ℕ) (e : Export) (p w : Bytes) (q : Plan) → shaped e p (H.Refused n) ≡ q → false ≡ answersTo w q
+unfolding shaped answersTo
+key-refused n e p w q g = rw (← g)
+
+module _ (machine : ℕ) (mingw : Bool) (b w : Bytes) (k : ℕ) where
+  pub key-private : isPrivate (exportAt b k) ≡ true → false ≡ keyAt machine mingw b w k
+  unfolding keyAt
+  key-private h = rw h
+
+  pub key-by : (q : Option Bytes) → isPrivate (exportAt b k) ≡ false → publicName (exportAt b k) ≡ q
+      → answersTo w (planPublic machine mingw (exportAt b k) q) ≡ keyAt machine mingw b w k
+  unfolding keyAt plan
+  key-by q h e = rw (h, e)
+
+  pub key-11 : isPrivate (exportAt b k) ≡ false → publicName (exportAt b k) ≡ none → false ≡ keyAt machine mingw b w k
+  unfolding planPublic answersTo
+  key-11 h e = key-by none h e
+
+-- ---- the scan from the back: what a loop cites
+
+module _ (p : ℕ → Bool) (from k : ℕ) (more : from < k) where
+  one-less : k - from ≡ suc (k - 1 - from)
+  one-less = omega arith
+
+  place : from + (k - 1 - from) ≡ k - 1
+  place = omega arith
+
+  pub last-here : p (k - 1) ≡ true → lastIn p from (k - from) ≡ some (k - 1)
+  unfolding lastIn
+  last-here h = rw (one-less, place, h)
+
+  pub last-before : p (k - 1) ≡ false → lastIn p from (k - from) ≡ lastIn p from (k - 1 - from)
+  unfolding lastIn
+  last-before h = rw (one-less, place, h)
+
+pub last-none : (p : ℕ → Bool) (from k : ℕ) → k ≤ from → lastIn p from (k - from) ≡ none
+unfolding lastIn
+last-none p from k h = let z : k - from ≡ 0 = omega arith in rw z
+
+-- ---- and over the exports of a list
+
+lastIn-zero : (p : ℕ → Bool) (k : ℕ) → lastIn p k 0 ≡ none
+unfolding lastIn
+lastIn-zero p k = refl
+
+-- one place more at the front
+lastIn-front : (p : ℕ → Bool) (k n : ℕ) → lastIn p k (suc n) ≡ orElse (lastIn p (k + 1) n) (if p k then some k else none)
+unfolding lastIn orElse
+lastIn-front p k zero = rw (add-zero k)
+lastIn-front p k (suc n) =
+    let place : k + suc n ≡ k + 1 + n = omega arith in
+    rw (place) (pick (p (k + 1 + n)) (lastIn-front p k n))
+  where
+    pick : (t : Bool) → lastIn p k (suc n) ≡ orElse (lastIn p (k + 1) n) (if p k then some k else none)
+        → (if t then some (k + 1 + n) else lastIn p k (suc n)) ≡ orElse (if t then some (k + 1 + n) else lastIn p (k + 1) n) (if p k then some k else none)
+    pick true ih = refl
+    pick false ih = ih
+
+map-orElse : {A B : Type 0} (f : A → B) (x y : Option A) → Option·map f (orElse x y) ≡ orElse (Option·map f x) (Option·map f y)
+unfolding orElse
+map-orElse f none y = refl
+map-orElse f (some a) y = refl
+
+module _ (machine : ℕ) (mingw : Bool) (b w : Bytes) where
+  one : (e : Export) (later : List Export) (q t : Bool) → answersTo w (plan machine mingw e) ≡ t
+      → lastAnswering machine mingw w (if q then later else e ∷ later) ≡ orElse (lastAnswering machine mingw w later) (if (if q then false else t) then some e else none)
+  unfolding lastAnswering orElse
+  one e later true t h = or-none (lastAnswering machine mingw w later)
+    where
+      or-none : (x : Option Export) → x ≡ orElse x none
+      or-none none = refl
+      or-none (some a) = refl
+  one e later false t h = rw h
+
+  abbrev keyed : ℕ → Bool
+  keyed k = if isPrivate (exportAt b k) then false else answersTo w (plan machine mingw (exportAt b k))
+
+  -- a place that is marked, as the export there
+  marked : (k : ℕ) (t : Bool) → (if t then some (exportAt b k) else none) ≡ Option·map (exportAt b) (if t then some k else none)
+  marked k true = refl
+  marked k false = refl
+
+  pub last-answering-in : (k n : ℕ) → lastAnswering machine mingw w (exportsFrom b k n) ≡ Option·map (exportAt b) (lastIn (keyAt machine mingw b w) k n)
+  unfolding exportsFrom lastAnswering keyAt
+  last-answering-in k zero = last-nothing
+    where
+      last-nothing : none ≡ Option·map (exportAt b) (lastIn (keyAt machine mingw b w) k 0)
+      last-nothing = ap (Option·map (exportAt b)) (sym (lastIn-zero (keyAt machine mingw b w) k))
+  last-answering-in k (suc n) =
+      one (exportAt b k) (exportsFrom b (k + 1) n) (isPrivate (exportAt b k)) (answersTo w (plan machine mingw (exportAt b k))) refl
+      ∙ ap (λ (x : Option Export). orElse x (if keyed k then some (exportAt b k) else none)) (last-answering-in (k + 1) n)
+      ∙ ap (orElse (Option·map (exportAt b) (lastIn (keyAt machine mingw b w) (k + 1) n))) (marked k (keyed k))
+      ∙ sym (map-orElse (exportAt b) (lastIn (keyAt machine mingw b w) (k + 1) n) (if keyed k then some k else none))
+      ∙ ap (Option·map (exportAt b)) (sym (lastIn-front (keyAt machine mingw b w) k n))

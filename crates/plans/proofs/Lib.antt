@@ -1,0 +1,4 @@
+pub mod Choices
+pub mod Publics
+pub mod Answering
+pub mod Accepting

@@ -1,0 +1,94 @@
+-- `plans::check::check_name` meets its contract.
+use Prim.Native.Nat.{_≤_}
+use mathlib.Core.Path.{_≡_, refl, sym, ap, ap₂, _∙_}
+use mathlib.Core.Option.{some}
+use native.Mathlib.Omega.{arith}
+use lib.ListN.{length, length-take}
+use Rattle.wire.proofs.Bytes.{not-true, not-false}
+use Rattle.plans.proofs.Publics.{public-base, public-renamed, string-length, base-length, names-private, names-by, names-11}
+use borrow.Author.Needs.{needs}
+use Rattle.plans.proofs.check.check_name.Statement.{statement}
+use Rattle.plans.proofs.check.check_name.Tie as tie
+use Rattle.plans.proofs.check.check_name.Reads as reads
+use Rattle.plans.proofs.check.check_name.Lts as lts
+use Rattle.lists.proofs.record.absent.Reads as absent-reads
+use Rattle.lists.proofs.record.base.Reads as base-reads
+use Rattle.lists.proofs.record.is_private.Reads as is-private-reads
+use Rattle.lists.proofs.record.string.Reads as string-reads
+use Rattle.names.proofs.rename.replace.Reads as replace-reads
+use Rattle.plans.proofs.check.check_named.Reads as check-named-reads
+
+is-private-requires : tie.Need-is-private-requires
+is-private-requires c κs = search needs
+
+returns : tie.Need-returns
+returns c = names-private _ _ _ _ (sym (c .before .is-private .ensures) ∙ c .if1 .taken)
+
+absent-requires : tie.Need-absent-requires
+absent-requires c κs = search needs
+
+base-requires : tie.Need-base-requires
+base-requires c κs = search needs
+
+check-named-requires : tie.Need-check-named-requires
+check-named-requires c κs = search needs
+
+returns-2 : tie.Need-returns-2
+returns-2 c = c .check-named .ensures
+    ∙ names-by _ _ _ _ _ (sym (c .before .before .before .before .before .is-private .ensures) ∙ c .before .before .before .before .if1 .left) (public-base _ _ (sym (c .before .before .before .absent .ensures) ∙ c .before .before .if2 .taken) ∙ ap some (sym (c .before .base .ensures)))
+
+base-requires-2 : tie.Need-base-requires-2
+base-requires-2 c κs = search needs
+
+string-requires : tie.Need-string-requires
+string-requires c κs = search needs
+
+string-requires-2 : tie.Need-string-requires-2
+string-requires-2 c κs = search needs
+
+replace-requires : tie.Need-replace-requires
+replace-requires c κs = let h = c .before .before .before .before .before .before .before .before .pre in (
+  omega (arith, ap length (c .before .before .base2 .ensures), base-length _ _ h),
+  omega (arith, ap length (c .before .string .ensures), string-length _ _ 0 h (omega arith), h .named),
+  omega (arith, ap length (c .string2 .ensures), string-length _ _ 1 h (omega arith), h .few 1 (omega arith)),
+)
+
+returns-3 : tie.Need-returns-3
+returns-3 c = names-11 _ _ _ _ (sym (c .before .before .before .before .before .before .before .before .is-private .ensures) ∙ c .before .before .before .before .before .before .before .if1 .left)
+    (public-renamed _ _ _ _ _ _ (sym (c .before .before .before .before .before .before .absent .ensures) ∙ c .before .before .before .before .before .if2 .left) (c .before .before .before .before .base2 .ensures) (c .before .before .before .string .ensures) (c .before .before .string2 .ensures)
+    (c .before .replace .ensures .fails (not-true _ (c .if3 .taken))))
+
+array-share-prefix-bytes : tie.Need-array-share-prefix-bytes
+array-share-prefix-bytes c = search needs
+
+slice-aggregate-check-named : tie.Need-slice-aggregate-check-named
+slice-aggregate-check-named c = search needs
+
+check-named-requires-2 : tie.Need-check-named-requires-2
+check-named-requires-2 c κs = search needs
+
+returns-4 : tie.Need-returns-4
+returns-4 c = c .check-named2 .ensures
+    ∙ names-by _ _ _ _ _ (sym (c .before .before .before .before .before .before .before .before .before .before .before .before .is-private .ensures) ∙ c .before .before .before .before .before .before .before .before .before .before .before .if1 .left)
+    (public-renamed _ _ _ _ _ _ (sym (c .before .before .before .before .before .before .before .before .before .before .absent .ensures) ∙ c .before .before .before .before .before .before .before .before .before .if2 .left) (c .before .before .before .before .before .before .before .before .base2 .ensures) (c .before .before .before .before .before .before .before .string .ensures) (c .before .before .before .before .before .before .string2 .ensures)
+    (c .before .before .before .before .before .replace .ensures .given (not-false _ (c .before .before .before .before .if3 .left))))
+
+pub check-name-spec : {M : Type 1} → statement M
+check-name-spec =
+    tie.close
+    (tie.spec
+    is-private-requires
+    returns
+    absent-requires
+    base-requires
+    check-named-requires
+    returns-2
+    base-requires-2
+    string-requires
+    string-requires-2
+    replace-requires
+    returns-3
+    array-share-prefix-bytes
+    slice-aggregate-check-named
+    check-named-requires-2
+    returns-4)

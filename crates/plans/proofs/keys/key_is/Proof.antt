@@ -1,0 +1,95 @@
+-- `plans::keys::key_is` meets its contract.
+use Prim.Native.Nat.{_≤_}
+use mathlib.Core.Path.{_≡_, refl, sym, ap, ap₂, _∙_}
+use mathlib.Core.Option.{some}
+use native.Mathlib.Omega.{arith}
+use lib.ListN.{length}
+use Rattle.wire.proofs.Bytes.{not-true, not-false}
+use Rattle.plans.proofs.Publics.{public-base, public-renamed, string-length, base-length}
+use Rattle.plans.proofs.Answering.{key-private, key-by, key-11}
+use borrow.Author.Needs.{needs}
+use Rattle.plans.proofs.keys.key_is.Statement.{statement}
+use Rattle.plans.proofs.keys.key_is.Tie as tie
+use Rattle.plans.proofs.keys.key_is.Reads as reads
+use Rattle.plans.proofs.keys.key_is.Lts as lts
+use Rattle.lists.proofs.record.absent.Reads as absent-reads
+use Rattle.lists.proofs.record.base.Reads as base-reads
+use Rattle.lists.proofs.record.is_private.Reads as is-private-reads
+use Rattle.lists.proofs.record.string.Reads as string-reads
+use Rattle.names.proofs.rename.replace.Reads as replace-reads
+use Rattle.plans.proofs.keys.key_named.Reads as key-named-reads
+
+is-private-requires : tie.Need-is-private-requires
+is-private-requires c κs = search needs
+
+returns : tie.Need-returns
+returns c = key-private _ _ _ _ _ (sym (c .before .is-private .ensures) ∙ c .if1 .taken)
+
+absent-requires : tie.Need-absent-requires
+absent-requires c κs = search needs
+
+base-requires : tie.Need-base-requires
+base-requires c κs = search needs
+
+key-named-requires : tie.Need-key-named-requires
+key-named-requires c κs = search needs
+
+returns-2 : tie.Need-returns-2
+returns-2 c = c .key-named .ensures
+    ∙ key-by _ _ _ _ _ _ (sym (c .before .before .before .before .before .is-private .ensures) ∙ c .before .before .before .before .if1 .left) (public-base _ _ (sym (c .before .before .before .absent .ensures) ∙ c .before .before .if2 .taken) ∙ ap some (sym (c .before .base .ensures)))
+
+base-requires-2 : tie.Need-base-requires-2
+base-requires-2 c κs = search needs
+
+string-requires : tie.Need-string-requires
+string-requires c κs = search needs
+
+string-requires-2 : tie.Need-string-requires-2
+string-requires-2 c κs = search needs
+
+replace-requires : tie.Need-replace-requires
+replace-requires c κs = let h = c .before .before .before .before .before .before .before .before .before .pre .0 in (
+  omega (arith, ap length (c .before .before .base2 .ensures), base-length _ _ h),
+  omega (arith, ap length (c .before .string .ensures), string-length _ _ 0 h (omega arith), h .named),
+  omega (arith, ap length (c .string2 .ensures), string-length _ _ 1 h (omega arith), h .few 1 (omega arith)),
+)
+
+returns-3 : tie.Need-returns-3
+returns-3 c = key-11 _ _ _ _ _ (sym (c .before .before .before .before .before .before .before .before .is-private .ensures) ∙ c .before .before .before .before .before .before .before .if1 .left)
+    (public-renamed _ _ _ _ _ _ (sym (c .before .before .before .before .before .before .absent .ensures) ∙ c .before .before .before .before .before .if2 .left) (c .before .before .before .before .base2 .ensures) (c .before .before .before .string .ensures) (c .before .before .string2 .ensures)
+    (c .before .replace .ensures .fails (not-true _ (c .if3 .taken))))
+
+array-share-prefix-bytes : tie.Need-array-share-prefix-bytes
+array-share-prefix-bytes c = search needs
+
+slice-aggregate-key-named : tie.Need-slice-aggregate-key-named
+slice-aggregate-key-named c = search needs
+
+key-named-requires-2 : tie.Need-key-named-requires-2
+key-named-requires-2 c κs = search needs
+
+returns-4 : tie.Need-returns-4
+returns-4 c = c .key-named2 .ensures
+    ∙ key-by _ _ _ _ _ _ (sym (c .before .before .before .before .before .before .before .before .before .before .before .before .is-private .ensures) ∙ c .before .before .before .before .before .before .before .before .before .before .before .if1 .left)
+    (public-renamed _ _ _ _ _ _ (sym (c .before .before .before .before .before .before .before .before .before .before .absent .ensures) ∙ c .before .before .before .before .before .before .before .before .before .if2 .left) (c .before .before .before .before .before .before .before .before .base2 .ensures) (c .before .before .before .before .before .before .before .string .ensures) (c .before .before .before .before .before .before .string2 .ensures)
+    (c .before .before .before .before .before .replace .ensures .given (not-false _ (c .before .before .before .before .if3 .left))))
+
+pub key-is-spec : {M : Type 1} → statement M
+key-is-spec =
+    tie.close
+    (tie.spec
+    is-private-requires
+    returns
+    absent-requires
+    base-requires
+    key-named-requires
+    returns-2
+    base-requires-2
+    string-requires
+    string-requires-2
+    replace-requires
+    returns-3
+    array-share-prefix-bytes
+    slice-aggregate-key-named
+    key-named-requires-2
+    returns-4)

@@ -1,0 +1,77 @@
+-- `plans::mangle_free` meets its contract.
+use mathlib.Core.Path.{_≡_, refl, sym, ap, ap₂, _∙_}
+use mathlib.Core.Bool.{true}
+use mathlib.Core.Option.{some}
+use Rattle.names.specs.Mangler.{demangledOf}
+use Rattle.plans.specs.Shape.{sourceOf, choiceOf, shaped}
+use Rattle.plans.proofs.Choices.{mangled-prefix, mangled-already, mangled-cannot, exporting-none, exporting-some}
+use borrow.Author.Needs.{needs}
+use Rattle.plans.proofs.mangle_free.Statement.{statement}
+use Rattle.plans.proofs.mangle_free.Tie as tie
+use Rattle.plans.proofs.mangle_free.Reads as reads
+use Rattle.plans.proofs.mangle_free.Lts as lts
+use Rattle.names.proofs.mangler.get_arm64ec_demangled_function_name.Reads as get-arm64ec-demangled-function-name-reads
+use Rattle.names.proofs.mangler.get_arm64ec_mangled_function_name.Reads as get-arm64ec-mangled-function-name-reads
+
+get-arm64ec-mangled-function-name-requires : tie.Need-get-arm64ec-mangled-function-name-requires
+get-arm64ec-mangled-function-name-requires c κs = search needs
+
+enum-told : tie.Need-enum-told
+enum-told c = search needs
+
+enum-told-2 : tie.Need-enum-told-2
+enum-told-2 c = search needs
+
+get-arm64ec-demangled-function-name-requires :
+    tie.Need-get-arm64ec-demangled-function-name-requires
+get-arm64ec-demangled-function-name-requires c κs = search needs
+
+enum-told-3 : tie.Need-enum-told-3
+enum-told-3 c = search needs
+
+enum-told-4 : tie.Need-enum-told-4
+enum-told-4 c = search needs
+
+enum-told-5 : tie.Need-enum-told-5
+enum-told-5 c = search needs
+
+enum-told-6 : tie.Need-enum-told-6
+enum-told-6 c = search needs
+
+returns : tie.Need-returns
+unfolding shaped sourceOf
+returns c = λ e t x. sym (mangled-prefix true _ x t (sym (c .before .before .get-arm64ec-mangled-function-name .ensures) ∙ c .enum-told .given .1))
+
+returns-2 : tie.Need-returns-2
+unfolding shaped demangledOf
+returns-2 c = λ e t x. sym (mangled-already true _ x t (sym (c .before .before .before .before .before .get-arm64ec-mangled-function-name .ensures) ∙ c .before .before .before .enum-told2 .given .1) ∙ exporting-none _ (sym (c .before .before .get-arm64ec-demangled-function-name .ensures .name) ∙ ap (demangledOf _) (c .enum-told3 .given .1)))
+
+returns-3 : tie.Need-returns-3
+unfolding shaped sourceOf demangledOf
+returns-3 c = λ e t x. sym (mangled-already true _ x t (sym (c .before .before .before .before .before .get-arm64ec-mangled-function-name .ensures) ∙ c .before .before .before .enum-told2 .given .1) ∙ exporting-some _ _ (sym (c .before .before .get-arm64ec-demangled-function-name .ensures .name) ∙ ap (demangledOf _) (c .enum-told4 .given .1)))
+
+returns-4 : tie.Need-returns-4
+unfolding shaped sourceOf demangledOf
+returns-4 c = λ e t x. sym (mangled-already true _ x t (sym (c .before .before .before .before .before .get-arm64ec-mangled-function-name .ensures) ∙ c .before .before .before .enum-told2 .given .1) ∙ exporting-some _ _ (sym (c .before .before .get-arm64ec-demangled-function-name .ensures .name) ∙ ap (demangledOf _) (c .enum-told5 .given .1)))
+
+returns-5 : tie.Need-returns-5
+unfolding shaped
+returns-5 c = λ e t x. sym (mangled-cannot true _ x t (sym (c .before .before .get-arm64ec-mangled-function-name .ensures) ∙ c .enum-told6 .given .1))
+
+pub mangle-free-spec : {M : Type 1} → statement M
+mangle-free-spec =
+    tie.close
+    (tie.spec
+    get-arm64ec-mangled-function-name-requires
+    enum-told
+    enum-told-2
+    get-arm64ec-demangled-function-name-requires
+    enum-told-3
+    enum-told-4
+    enum-told-5
+    enum-told-6
+    returns
+    returns-2
+    returns-3
+    returns-4
+    returns-5)
