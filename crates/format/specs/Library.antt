@@ -25,6 +25,7 @@ answersTo wanted (plain f t x) = same (apply t f) wanted
 answersTo wanted (deferred p w) = false
 answersTo wanted (refused number) = false
 
+-- the name under which a member stands
 unfoldable pub final : Plan → Bytes
 final (plain f t x) = f
 final (deferred p w) = p
@@ -41,6 +42,7 @@ lastAnswering machine mingw wanted (e ∷ es) =
 abbrev pub imp : Bytes → Bytes
 imp s = ascii "__imp_" ++ s
 
+-- a short import that is written at once
 unfoldable pub shortMember : ℕ → Bytes → Export → Plan → List Member
 shortMember machine dll e (plain f t x) = short machine (e .ordinal) (kind e) t f dll x ∷ []
 shortMember machine dll e (deferred p w) = []
@@ -56,6 +58,7 @@ unfoldable pub aliasOrShort : ℕ → Bool → Bytes → Export → Bytes → By
 aliasOrShort machine mingw dll e public wanted none = short machine (e .ordinal) (kind e) 4 public dll wanted ∷ []
 aliasOrShort machine mingw dll e public wanted (some a) = aliasMembers machine (kind e) (final (plan machine mingw a)) public
 
+-- what is written of a deferred one
 unfoldable pub deferredMember : ℕ → Bool → Bytes → List Export → Export → Plan → List Member
 deferredMember machine mingw dll es e (plain f t x) = []
 deferredMember machine mingw dll es e (deferred p w) = aliasOrShort machine mingw dll e p w (lastAnswering machine mingw w es)
@@ -67,6 +70,7 @@ shorts machine mingw dll es = join (map (λ (e : Export). shortMember machine dl
 unfoldable pub deferreds : ℕ → Bool → Bytes → List Export → List Member
 deferreds machine mingw dll es = join (map (λ (e : Export). deferredMember machine mingw dll es e (plan machine mingw e)) es)
 
+-- all of a list's members
 unfoldable pub membersOf : ℕ → Bool → Bytes → List Export → List Member
 membersOf machine mingw dll es = shorts machine mingw dll es ++ deferreds machine mingw dll es
 
@@ -99,10 +103,12 @@ entrySize = 8
 abbrev pub firstMemberAt : ℕ → ℕ
 firstMemberAt count = setHeaderSize + entrySize * count
 
+-- offset and length of each member, of which the first stands at a place
 unfoldable pub directory : ℕ → List Bytes → Bytes
 directory at [] = []
 directory at (m ∷ ms) = le32 at ++ le32 (length m) ++ directory (at + length m) ms
 
+-- member count, members of the first list, members of the native list, offset of the first member; directory; members
 unfoldable pub setBytes : ℕ → ℕ → List Bytes → Bytes
 setBytes firsts natives ms =
     let count = 3 + firsts + natives in

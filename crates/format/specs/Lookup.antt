@@ -20,6 +20,7 @@ use Rattle.format.specs.declared.Looked.the-variants.{NotFound, Nowhere,
 unfoldable pub shown : ℕ → Bytes → Bytes
 shown machine s = if eqb machine arm64ec then Option·getD (demangle s) s else s
 
+-- `__imp_`d; if not data also d; on ARM64EC, if not data, then `__imp_aux_`d and the symbol itself
 unfoldable pub symbols : Member → List Bytes
 symbols (descriptor m dll compat) = []
 symbols (nullDescriptor m s) = []
@@ -59,6 +60,7 @@ unfoldable pub backToBack : Bytes → ℕ → ℕ → ℕ → Bool
 backToBack b i at zero = eqb at (length b)
 backToBack b i at (suc n) = let later = backToBack b (i + 1) (at + lengthAt b i) n in if eqb (offsetAt b i) at then later else false
 
+-- laid out as a member set, ending with its last member
 unfoldable pub laidOut : Bytes → Bool
 laidOut b =
     leb setHeaderSize (length b) && eqb (setCount b) (3 + setFirsts b + setNatives b) && eqb (u32At b 12) (firstMemberAt (setCount b))

@@ -42,6 +42,7 @@ upToDot d none = d
 upToDot d (some zero) = d
 upToDot d (some (suc i)) = take (suc i) d
 
+-- the bytes before the last dot
 unfoldable pub stem : Bytes → Bytes
 stem d = upToDot d (last (λ i. eqb (getD d i 0) dot) (length d))
 
@@ -69,6 +70,7 @@ unfoldable pub splice : Bytes → ℕ → Bytes → Option ℕ → Option Bytes
 splice s n to none = none
 splice s n to (some i) = some (take i s ++ to ++ drop (i + n) s)
 
+-- the first occurrence replaced; none where there is none
 unfoldable pub replaceOnce : Bytes → Bytes → Bytes → Option Bytes
 replaceOnce s from to = splice s (length from) to (find from s)
 
@@ -84,9 +86,11 @@ replace s from to =
 unfoldable pub prefixed : Bytes → ℕ
 prefixed s = if starts question s || starts at-sign s || starts underscore s then 1 else 0
 
+-- type 2: that byte dropped
 unfoldable pub noprefix : Bytes → Bytes
 noprefix s = drop (prefixed s) s
 
+-- type 3: the same, then cut at the first `@`
 unfoldable pub undecorate : Bytes → Bytes
 undecorate s = before at-sign (noprefix s)
 
@@ -111,6 +115,7 @@ plainType machine mingw base name =
 abbrev pub tag : Bytes
 tag = ascii "$$h"
 
+-- a name that holds `$$h`
 unfoldable pub tagged : Bytes → Bool
 tagged s = isSome (find tag s)
 

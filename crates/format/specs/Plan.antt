@@ -18,9 +18,11 @@ pub data Plan : Type 0 where
 
 -- ---- the public name
 
+-- symbol_name if present, else name
 abbrev pub base : Export → Bytes
 base e = Option·getD (e .symbolName) (e .name)
 
+-- the base, or with ext_name the base with name replaced by it
 unfoldable pub renamed : Bytes → Bytes → Option Bytes → Option Bytes
 renamed b n none = some b
 renamed b n (some x) = replace b n x
@@ -70,6 +72,7 @@ unfoldable pub exporting : Bytes → Option Bytes → Plan
 exporting public none = refused 14
 exporting public (some x) = plain public 4 x
 
+-- `#` before a name that starts with neither `?` nor `#`; one that is mangled already stays; 13 for a free name that starts `?` without `$$h`
 unfoldable pub mangled : Bool → Bytes → ℕ → Bytes → Plan
 mangled isFree public t x =
     if not (starts question public || starts hash public)
@@ -80,6 +83,7 @@ mangled isFree public t x =
 
 -- ---- the plan
 
+-- an ARM64EC code import
 abbrev pub ecCode : ℕ → Export → Bool
 ecCode machine e = eqb machine arm64ec && eqb (kind e) 0
 
@@ -87,6 +91,7 @@ unfoldable pub planChoice : ℕ → Export → Bytes → Choice → Plan
 planChoice machine e public (later w) = deferred public w
 planChoice machine e public (typed t x) = if ecCode machine e then mangled (free t) public t x else plain public t x
 
+-- 11 where renaming failed, 12 where the public name is empty
 unfoldable pub planPublic : ℕ → Bool → Export → Option Bytes → Plan
 planPublic machine mingw e none = refused 11
 planPublic machine mingw e (some []) = refused 12

@@ -121,6 +121,7 @@ guess b =
     else if eqb (u16At b 2) 1 then nullGuess b
     else thunkGuess b
 
+-- an admitted member whose bytes these are
 unfoldable pub right : Bytes → Member → Bool
 right b m = admits m && same (encode m) b
 

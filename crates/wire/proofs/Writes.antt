@@ -74,6 +74,16 @@ over-set zero v (x ∷ []) = refl
 over-set zero v (x ∷ y ∷ l) = refl
 over-set (suc n) v (x ∷ l) = ap (λ (t : Bytes). x ∷ t) (over-set n v l)
 
+-- two that stand apart may be laid over in either order
+pub over-comm : (d m : ℕ) (x y l : Bytes) → d + length x ≤ m → over m y (over d x l) ≡ over d x (over m y l)
+unfolding over
+over-comm d m x y [] h = refl
+over-comm zero m [] y (c ∷ l) h = sym (over-nil 0 (over m y (c ∷ l)))
+over-comm zero zero (a ∷ x) y (c ∷ l) h = absurd (omega arith)
+over-comm zero (suc m) (a ∷ x) y (c ∷ l) h = ap (λ (t : Bytes). a ∷ t) (over-comm zero m x y l (omega arith))
+over-comm (suc d) zero x y (c ∷ l) h = absurd (omega arith)
+over-comm (suc d) (suc m) x y (c ∷ l) h = ap (λ (t : Bytes). c ∷ t) (over-comm d m x y l (omega arith))
+
 -- ---- Wrote
 
 infixl 60 _⨾_
