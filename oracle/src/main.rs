@@ -4,7 +4,7 @@ use std::env;
 use std::io::{self, Write};
 use std::process::ExitCode;
 
-use oracle::{fixed, serve, stats};
+use oracle::{fixed, names, serve, stats};
 
 const HELP: &str = "\
 Usage: oracle COMMAND
@@ -13,6 +13,7 @@ Answers export lists with the members that the Rust sources make.
 
 Commands:
   answers       write the fixed list of cases with their answers
+  names         write the table of names with what becomes of them
   stats N SEED  answer N generated lists and print what they were like
   serve         answer the requests on standard input until it ends
   --help        print this text
@@ -44,6 +45,7 @@ fn main() -> ExitCode {
 fn run(words: &[&str]) -> io::Result<bool> {
     match words {
         ["answers"] => io::stdout().write_all(&fixed::file())?,
+        ["names"] => io::stdout().write_all(&names::file())?,
         ["stats", count, seed] => {
             let (Ok(count), Ok(seed)) = (count.parse(), seed.parse()) else {
                 return Ok(false);

@@ -15,12 +15,15 @@ mod coff;
 #[path = "../../../../shared/docs/src/coff_import_file.rs"]
 #[rustfmt::skip]
 mod coff_import_file;
+// Its failure to mangle says nothing more, and is handed out as it is.
+#[allow(clippy::result_unit_err)]
 #[path = "../../../../shared/docs/src/mangler.rs"]
 #[rustfmt::skip]
 mod mangler;
 
 pub use coff::MachineTypes;
 pub use coff_import_file::COFFShortExport;
+pub use mangler::{get_arm64ec_demangled_function_name, get_arm64ec_mangled_function_name};
 
 /// Gives each symbol of a member to the function it is handed.
 pub type GetSymbolsFn = fn(buf: &[u8], f: &mut dyn FnMut(&[u8]) -> Result<()>) -> Result<bool>;

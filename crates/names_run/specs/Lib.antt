@@ -1,0 +1,2 @@
+-- What a row of the table says.
+pub mod Told
