@@ -21,7 +21,7 @@ use Rattle.format.specs.Lookup.{shown, symbols, among, listOf, lookupIn, lookup
 use Rattle.format.specs.Demands.{Entry, byName, Where, notFound, nowhere, leads, meaning, asks, Leading, to, shortLeads, aliasLeads, leadings, Asked, Defines, Distinct, Plainly, Kept, Closed, Demand3, Promised}
 use Rattle.format.specs.declared.Checked.the-variants.{Fine}
 use Rattle.laws.proofs.Accepted.{Accepts, Accepted, accepted}
-use Rattle.laws.proofs.Plans.{PlanBounds, of-plain, of-deferred, of-refused, DeferredBounds, plan-bounds}
+use Rattle.laws.proofs.Plans.{choice-final, PlanBounds, of-plain, of-deferred, of-refused, DeferredBounds, plan-bounds}
 use Rattle.laws.proofs.Members.{Answering, last-answering}
 use Rattle.laws.proofs.Sets.{Stands, Listed, placed, written-read, readBack, first-listed, native-listed}
 use Rattle.laws.proofs.Leads.{entryOf, definerIn, stepsTo, leadsBy, leadsIn, lookupIn-means}
@@ -43,15 +43,6 @@ answers-is wanted (plain f t x) e = record { f = f; t = t; x = x; is = refl }
 answers-is wanted (deferred p w) e = let z : _≡_ {A = ℕ} 0 1 = cc in absurd (omega arith)
 answers-is wanted (refused n) e = let z : _≡_ {A = ℕ} 0 1 = cc in absurd (omega arith)
 
--- off ARM64EC the final name is the public name
-choice-public : (machine : ℕ) (e : Export) (p f x : Bytes) (t : ℕ) (q : Choice) → eqb machine arm64ec ≡ false → planChoice machine e p q ≡ plain f t x → p ≡ f
-unfolding planChoice
-choice-public machine e p f x t (later w) m h = cc
-choice-public machine e p f x t (typed t₀ x₀) m h = same (rw m at h)
-  where
-    same : plain p t₀ x₀ ≡ plain f t x → p ≡ f
-    same h = cc
-
 pub plain-public : (machine : ℕ) (mingw : Bool) (e : Export) (f x : Bytes) (t : ℕ) → eqb machine arm64ec ≡ false → plan machine mingw e ≡ plain f t x → publicName e ≡ some f
 unfolding plan planPublic
 plain-public machine mingw e f x t m h = pick (publicName e) refl h
@@ -59,7 +50,7 @@ plain-public machine mingw e f x t m h = pick (publicName e) refl h
     pick : (q : Option Bytes) → publicName e ≡ q → planPublic machine mingw e q ≡ plain f t x → publicName e ≡ some f
     pick none g h = cc
     pick (some []) g h = cc
-    pick (some (c ∷ cs)) g h = g ∙ ap some (choice-public machine e (c ∷ cs) f x t (choose machine mingw e (c ∷ cs)) m h)
+    pick (some (c ∷ cs)) g h = g ∙ ap some (choice-final machine e (c ∷ cs) f x t (choose machine mingw e (c ∷ cs)) m h)
 
 deferred-native : (machine : ℕ) (mingw : Bool) (e : Export) (p w : Bytes) → Accepts machine mingw e → plan machine mingw e ≡ deferred p w → eqb machine arm64ec ≡ false
 deferred-native machine mingw e p w a h = take-native (subst (PlanBounds machine) h (plan-bounds machine mingw e (a .good)))

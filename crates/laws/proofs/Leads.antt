@@ -12,6 +12,7 @@ use lib.Dec.{eqb}
 use borrow.Author.Tests.{eqb-true}
 use Rattle.wire.specs.Bytes.{Bytes, if_then_else_, part, before, starts}
 use Rattle.wire.proofs.Bytes.{part-past, part-part}
+use Rattle.wire.proofs.Parts.{take-before, length-before}
 use Rattle.format.specs.Names.{question, at-sign, underscore, prefixed, noprefix, undecorate, apply, dropped}
 use Rattle.format.specs.Layouts.{Member, descriptor, nullDescriptor, nullThunk, short, weak, importHeaderSize, encode}
 use Rattle.format.specs.Lookup.{Placed, symbols, among, definer, entry, stepped, step, answered, answer, lookupIn}
@@ -53,24 +54,6 @@ leadsIn ms s = leadsBy ms (definerIn ms s)
 
 -- ---- a type applied to a name is a part of it
 
-take-before : (c : ℕ) (s : Bytes) → take (length (before c s)) s ≡ before c s
-unfolding before
-take-before c [] = refl
-take-before c (x ∷ xs) = one (eqb x c) (take-before c xs)
-  where
-    one : (t : Bool) → take (length (before c xs)) xs ≡ before c xs → take (length (if t then [] else x ∷ before c xs)) (x ∷ xs) ≡ (if t then [] else x ∷ before c xs)
-    one true ih = refl
-    one false ih = ap (λ (l : Bytes). x ∷ l) ih
-
-pub before-short : (c : ℕ) (s : Bytes) → length (before c s) ≤ length s
-unfolding before
-before-short c [] = omega arith
-before-short c (x ∷ xs) = one (eqb x c) (before-short c xs)
-  where
-    one : (t : Bool) → length (before c xs) ≤ length xs → length (if t then [] else x ∷ before c xs) ≤ suc (length xs)
-    one true ih = omega arith
-    one false ih = omega arith
-
 pub prefixed-short : (s : Bytes) → prefixed s ≤ length s
 unfolding prefixed starts
 prefixed-short [] = omega arith
@@ -98,7 +81,7 @@ apply-within t s = pick (eqb t 2) (eqb t 3)
     pick : (a b : Bool)
         → (if a then prefixed s else if b then prefixed s else 0) + length (if a then drop (prefixed s) s else if b then before at-sign (drop (prefixed s) s) else s) ≤ length s
     pick true b = omega (arith, length-drop (prefixed s) s, prefixed-short s)
-    pick false true = omega (arith, length-drop (prefixed s) s, prefixed-short s, before-short at-sign (drop (prefixed s) s))
+    pick false true = omega (arith, length-drop (prefixed s) s, prefixed-short s, length-before at-sign (drop (prefixed s) s))
     pick false false = omega arith
 
 -- ---- an entry's place shows the entry

@@ -219,3 +219,12 @@ plan-bounds machine mingw e g = pick (publicName e) refl
     pick (some []) h = of-refused
     pick (some (c ∷ cs)) h =
         planChoice-bounds machine c cs (public-clear e (c ∷ cs) g h) e (choose machine mingw e (c ∷ cs)) (choice-bounds machine mingw e (c ∷ cs) g)
+
+-- off ARM64EC the final name is the public name
+pub choice-final : (machine : ℕ) (e : Export) (p f x : Bytes) (t : ℕ) (q : Choice) → eqb machine arm64ec ≡ false → planChoice machine e p q ≡ plain f t x → p ≡ f
+unfolding planChoice
+choice-final machine e p f x t (later w) m h = cc
+choice-final machine e p f x t (typed t₀ x₀) m h = same-name (rw m at h)
+  where
+    same-name : plain p t₀ x₀ ≡ plain f t x → p ≡ f
+    same-name h = cc

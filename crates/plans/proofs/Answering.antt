@@ -16,6 +16,7 @@ use Rattle.format.specs.Exports.{Export, isPrivate, exportAt, exportsFrom}
 use Rattle.format.specs.Plan as P
 use Rattle.format.specs.Plan.{Plan, Choice, publicName, choose, planChoice, planPublic, plan}
 use Rattle.format.specs.Library.{answersTo, lastAnswering}
+use Rattle.laws.proofs.Plans.{choice-final}
 use Rattle.coff.specs.Import.{typeNumber}
 use Rattle.plans.specs.Shape.{sourceOf, shaped}
 use Rattle.plans.specs.Keys.{keyAt, lastIn}
@@ -25,18 +26,10 @@ use Rattle.plans.specs.declared.Shape.the-variants as H
 -- ---- one record
 
 -- off ARM64EC the final name is the public name
-choice-final : (machine : ℕ) (e : Export) (p f x : Bytes) (t : ℕ) (q : Choice) → (machine ≡ arm64ec → ⊥) → planChoice machine e p q ≡ P.plain f t x → f ≡ p
-unfolding planChoice
-choice-final machine e p f x t (P.later w) m h = cc
-choice-final machine e p f x t (P.typed t₀ x₀) m h = same-name (rw (ne-eqb machine arm64ec m) at h)
-  where
-    same-name : P.plain p t₀ x₀ ≡ P.plain f t x → f ≡ p
-    same-name h = cc
-
 pub public-final : (machine : ℕ) (mingw : Bool) (e : Export) (p f x : Bytes) (t : ℕ) → (machine ≡ arm64ec → ⊥) → planPublic machine mingw e (some p) ≡ P.plain f t x → f ≡ p
 unfolding planPublic
 public-final machine mingw e [] f x t m h = cc
-public-final machine mingw e (c ∷ cs) f x t m h = choice-final machine e (c ∷ cs) f x t (choose machine mingw e (c ∷ cs)) m h
+public-final machine mingw e (c ∷ cs) f x t m h = sym (choice-final machine e (c ∷ cs) f x t (choose machine mingw e (c ∷ cs)) (ne-eqb machine arm64ec m) h)
 
 pub key-short : (machine : ℕ) (mingw : Bool) (e : Export) (p w : Bytes) (h : Bool) (t : _) (s : _) (r : Bool) → (machine ≡ arm64ec → ⊥)
     → shaped e p (H.Short h t s) ≡ planPublic machine mingw e (some p) → r ≡ same (apply (typeNumber t) p) w → r ≡ answersTo w (planPublic machine mingw e (some p))
