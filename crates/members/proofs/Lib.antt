@@ -1,0 +1,5 @@
+-- Laws of the members' parts, by subject.
+pub mod Runs
+pub mod ByWidth
+pub mod Cases
+pub mod Sizes
