@@ -1,7 +1,7 @@
 -- Laws of members drawn: nothing, one, one list after another, and the whole set.
 use Prim.Native.Nat.{ℕ, zero, suc, _+_, _*_, _-_, _≤_, _<_}
 use mathlib.Core.Path.{_≡_, refl, sym, ap, ap₂, _∙_}
-use mathlib.Core.List.{List, [], _∷_, _++_, map, append-nil, append-assoc}
+use mathlib.Core.List.{List, [], _∷_, _++_, map, append-nil, map-append}
 use native.Mathlib.Nat.{add-zero}
 use native.Mathlib.Omega.{arith}
 use lib.ListN.{length, take, drop, length-append, length-map}
@@ -11,18 +11,10 @@ use Rattle.wire.proofs.Writes.{over-nil, over-over, over-comm, over-exact, leng
 use Rattle.format.specs.Layouts.{Member, encode}
 use Rattle.format.specs.Library.{setHeaderSize, entrySize, firstMemberAt, directory, setBytes}
 use Rattle.laws.proofs.Totals.{length-directory, length-setBytes}
+use Rattle.members.proofs.Runs.{join-append}
 use Rattle.library.specs.Pen.{Room, Drew, Noted}
 
--- ---- directories and joined bytes, one after another
-
-join-append : (a b : List Bytes) → join (a ++ b) ≡ join a ++ join b
-unfolding join
-join-append [] b = refl
-join-append (x ∷ a) b = ap (λ (t : Bytes). x ++ t) (join-append a b) ∙ sym (append-assoc x (join a) (join b))
-
-map-append : (f : Member → Bytes) (a b : List Member) → map f (a ++ b) ≡ map f a ++ map f b
-map-append f [] b = refl
-map-append f (x ∷ a) b = ap (λ (t : List Bytes). f x ∷ t) (map-append f a b)
+-- ---- directories, one after another
 
 directory-append : (at : ℕ) (a b : List Bytes) → directory at (a ++ b) ≡ directory at a ++ directory (at + length (join a)) b
 unfolding directory join
