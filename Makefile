@@ -1,5 +1,5 @@
 # Crepedum: import-library members, proved.
-.PHONY: test prove lib compare bench
+.PHONY: test prove lib examples compare bench
 
 # Everything: proofs, must-fail edits, programs, and the comparison beside the Rust.
 test:
@@ -13,10 +13,14 @@ prove:
 lib:
 	@rt staticlib crepedum
 
+# The library called from C and from Python.
+examples:
+	@tools/examples
+
 # The comparison beside the Rust at length.
 compare:
 	@tools/beside-rust 1000000
 
-# Times, on this machine, in release builds.
+# Times beside a plain Rust program, on this machine, in release builds.
 bench: lib
 	@cd beside && cargo run --release --offline --quiet -- bench

@@ -8,4 +8,16 @@
 /* Checks an export list: 0 where no refusal from 1 to 14 applies, else the refusal's number times 2^32, plus its place. */
 uint64_t crepedum_check(const uint8_t *list, size_t list_len, uint32_t machine, bool mingw);
 
+/* Writes the member set of an export list into out, of out_len bytes. Returns the total (below 2^32), or the refusal's number times
+   2^32, plus its place; 15, for too little room, comes last. On a refusal all of out is as before; on success what stands beyond the
+   total is. list and out must not overlap. */
+uint64_t crepedum_write(const uint8_t *list, size_t list_len, uint32_t machine, bool mingw, bool whole_archive_compat, uint8_t *out, size_t out_len);
+
+/* Reads a member: 1 import descriptor, 2 null import descriptor, 3 null thunk, 4 short import, 5 weak external. The first 11
+   fields are then its machine, ordinal, type, kind and compat, and the start and length of each of its names within the member,
+   0 where the layout has none: DLL name and stem (1), stem (2, 3), symbol, DLL name and export string (4), target and alias (5).
+   Else the refusal's number times 2^32, and no field is changed: 15 where fields_len is below 11, which is tested first, and 16
+   where the bytes are no member. */
+uint64_t crepedum_read(const uint8_t *member, size_t len, uint32_t *fields, size_t fields_len);
+
 #endif

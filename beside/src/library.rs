@@ -1,14 +1,55 @@
 //! The library, called safely.
 
+use crate::order::Refusal;
+use oracle::Options;
+
 mod raw {
     unsafe extern "C" {
         pub fn crepedum_check(list: *const u8, list_len: usize, machine: u32, mingw: bool) -> u64;
+
+        pub fn crepedum_write(
+            list: *const u8,
+            list_len: usize,
+            machine: u32,
+            mingw: bool,
+            whole_archive_compat: bool,
+            out: *mut u8,
+            out_len: usize,
+        ) -> u64;
     }
 }
 
+/// The refusal that an answer stands for, if its upper half is a number.
+fn refusal(word: u64) -> Option<Refusal> {
+    (word >> 32 != 0).then_some(((word >> 32) as u32, word as u32))
+}
+
 /// Refusals 1 to 14: the number and place, or nothing.
-pub fn check(list: &[u8], machine: u32, mingw: bool) -> Option<(u32, u32)> {
+pub fn check(list: &[u8], machine: u32, mingw: bool) -> Option<Refusal> {
     // SAFETY: the pointer and length are those of a slice, which the library only reads.
     let word = unsafe { raw::crepedum_check(list.as_ptr(), list.len(), machine, mingw) };
-    (word != 0).then_some(((word >> 32) as u32, word as u32))
+    assert!(word == 0 || word >> 32 != 0, "no answer of a check: {word}");
+    refusal(word)
+}
+
+/// Writes the member set of a list and returns its total, or the refusal's number and place.
+pub fn write(list: &[u8], options: Options, out: &mut [u8]) -> Result<usize, Refusal> {
+    let Options {
+        machine,
+        mingw,
+        compat,
+    } = options;
+    // SAFETY: both pairs are those of slices, the second of one that nobody else holds.
+    let word = unsafe {
+        raw::crepedum_write(
+            list.as_ptr(),
+            list.len(),
+            machine,
+            mingw,
+            compat,
+            out.as_mut_ptr(),
+            out.len(),
+        )
+    };
+    refusal(word).map_or(Ok(word as usize), Err)
 }

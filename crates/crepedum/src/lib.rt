@@ -1,9 +1,14 @@
 // What programs in other languages call; include/crepedum.h declares it.
+pub mod reading; // reading.rt: the reader
+
 use format::Checked;
+use format::Written;
 ghost use mathlib.Core.Path.{_≡_};
 ghost use mathlib.Core.Bool.{Bool};
+ghost use lib.ListN.{length};
 ghost use Rattle.format.specs.Refusals.{checkExports};
-ghost use Rattle.crepedum.specs.Words.{checkWord};
+ghost use Rattle.format.specs.Answers.{written, outputAfter};
+ghost use Rattle.crepedum.specs.Words.{checkWord, writtenWord};
 
 // An answer of a check as one number: 0, or the refusal's number times 2^32, plus its place.
 fn check_word(c: Checked) -> u64
@@ -21,4 +26,28 @@ pub extern "C" fn crepedum_check(list: &[u8], machine: u32, mingw: bool) -> u64
     ensures { λ r. ⌜ ((compat : Bool) → r ≡ checkWord (checkExports (record { machine = machine; mingw = mingw; compat = compat }) (now (list .entry)))) ⌝ }
 {
     check_word(plans::check::check_exports(list, machine, mingw))
+}
+
+// An answer of the writer as one number: the total, or the refusal's number times 2^32, plus its place.
+fn written_word(w: Written) -> u64
+    ensures { λ r. ⌜ r ≡ writtenWord w ⌝ }
+{
+    match w {
+        Written::Total(n) => n as u64,
+        Written::Refused { number, place } => (number as u64) * 4294967296 + (place as u64),
+    }
+}
+
+// Writes the member set of any bytes.
+#[no_mangle]
+pub extern "C" fn crepedum_write(
+    list: &[u8],
+    machine: u32,
+    mingw: bool,
+    whole_archive_compat: bool,
+    out: &mut [u8],
+) -> u64
+    ensures { λ r. ⌜ (r ≡ writtenWord (written (record { machine = machine; mingw = mingw; compat = «whole_archive_compat» }) (now (list .entry)) (length (now (out .entry))))) × (now (out .exit) ≡ outputAfter (record { machine = machine; mingw = mingw; compat = «whole_archive_compat» }) (now (list .entry)) (now (out .entry))) ⌝ }
+{
+    written_word(library::write(list, machine, mingw, whole_archive_compat, out))
 }

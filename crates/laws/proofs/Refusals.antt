@@ -73,6 +73,10 @@ demand1 o b out =
       succeeds = λ e. (rw (none-is e), rw (none-is e));
     }
 
+-- so whatever answers and leaves what they say meets it: the contract of the writer's code
+pub demand1-by : (o : Options) (b out : Bytes) {r : Written} {out′ : Bytes} → r ≡ written o b (length out) → out′ ≡ outputAfter o b out → Demand1 o b out r out′
+demand1-by o b out e f = rw (e, f) (demand1 o b out)
+
 pub demand1-once : (o : Options) (b out : Bytes) (r r′ : Written) (out′ out″ : Bytes) → Demand1 o b out r out′ → Demand1 o b out r′ out″ → (r ≡ r′) × (out′ ≡ out″)
 demand1-once o b out r r′ out′ out″ d d′ =
     ⊎-elim

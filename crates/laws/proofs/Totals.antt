@@ -178,14 +178,22 @@ mapped [] x P h i = absurd (List·Memᴰ·not-nil i)
 mapped (m ∷ ms) x P h i =
     ⊎-elim (λ e. rw e (h m (List·Memᴰ·head refl))) (λ j. mapped ms x P (λ n k. h n (List·Memᴰ·tail k)) j) (List·Memᴰ·cases-cons i)
 
+-- all members of an accepted list, and their bytes
+pub members-small : (o : Options) (b : Bytes) → Octets b → checkExports o b ≡ Fine
+    → (length (allMembers o b) ≤ 16387) × (length (join (map encode (allMembers o b))) ≤ maxMember * 16387)
+members-small o b small e =
+    let ms = map encode (allMembers o b) in
+    let few : length (allMembers o b) ≤ 16387 = all-few o b (accepted o b e) in
+    let long : length (join ms) ≤ maxMember * length ms =
+    length-join-few maxMember ms (λ x i. mapped (allMembers o b) x (λ (y : Bytes). length y ≤ maxMember) (λ m j. member-small m (all-admitted o b small e m j)) i) in
+    (few, omega (arith, long, length-map (allMembers o b) encode))
+
 pub total-small : (o : Options) (b : Bytes) → Octets b → checkExports o b ≡ Fine → length (memberSet o b) < 4294967296
 unfolding memberSet
 total-small o b small e =
+    let (few, long) = members-small o b small e in
     let ms = map encode (allMembers o b) in
-    let few : length ms ≤ 16387 = rw (length-map (allMembers o b) encode) (all-few o b (accepted o b e)) in
-    let long : length (join ms) ≤ maxMember * length ms =
-    length-join-few maxMember ms (λ x i. mapped (allMembers o b) x (λ (y : Bytes). length y ≤ maxMember) (λ m j. member-small m (all-admitted o b small e m j)) i) in
-    omega (arith, length-setBytes (length (firstMembers o b)) (length (nativeMembers o b)) ms)
+    omega (arith, few, long, length-map (allMembers o b) encode, length-setBytes (length (firstMembers o b)) (length (nativeMembers o b)) ms)
 
 joined : (before : List Bytes) (m : Bytes) (after : List Bytes) → length (join before) + length m ≤ length (join (before ++ m ∷ after))
 unfolding join

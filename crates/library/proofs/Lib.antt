@@ -1,1 +1,1 @@
-pub mod Pens
+pub mod MemberSets

@@ -1,1 +1,1 @@
-pub mod Pen
+pub mod Sets

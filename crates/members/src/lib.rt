@@ -40,10 +40,10 @@ ghost use Rattle.coff.specs.Machines.{IsMachine};
 ghost use Rattle.members.specs.Members.{IsStem, shortOf, weakOf};
 
 // The name type stands above the two bits of the import type.
-const NAME_TYPE: u16 = 4;
+pub const NAME_TYPE: u16 = 4;
 
 // The number of NameExportas.
-const EXPORT_AS: u16 = 4;
+pub const EXPORT_AS: u16 = 4;
 
 // What stands before the name of an import's address.
 const IMP_PREFIX: [u8; 6] = *b"__imp_";

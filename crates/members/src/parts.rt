@@ -27,13 +27,13 @@ ghost use Rattle.format.specs.Layouts.{symbol, longName};
 ghost use Rattle.members.specs.Members.{Parts, descriptorSections, relocations, descriptorData, descriptorSymbols, weakSymbols};
 
 // Where the symbols stand that a descriptor's relocations and a weak external speak of.
-const DLL_NAME: u32 = 2;
+pub const DLL_NAME: u32 = 2;
 
-const LOOKUP_TABLE: u32 = 3;
+pub const LOOKUP_TABLE: u32 = 3;
 
-const ADDRESS_TABLE: u32 = 4;
+pub const ADDRESS_TABLE: u32 = 4;
 
-const TARGET: u32 = 2;
+pub const TARGET: u32 = 2;
 
 // A symbol whose name stands in the string table.
 pub fn put_long(

@@ -15,7 +15,7 @@ use crate::search::find;
 use crate::search::starts_with;
 
 // How many bytes the tag `$$h` has.
-const TAG_LEN: usize = 3;
+pub const TAG_LEN: usize = 3;
 
 // What mangling a name comes to.
 pub enum Mangling {

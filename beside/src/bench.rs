@@ -1,0 +1,101 @@
+//! Times of the library beside those of the plain Rust program.
+
+use std::hint::black_box;
+use std::time::Instant;
+
+use oracle::ask::{AMD64, Options};
+use oracle::list::{Record, encode_list};
+
+use crate::judge::Difference;
+use crate::{library, plain};
+
+const RUNS: usize = 21;
+const ALIASES: usize = 1000;
+const ROOM: usize = 1 << 20;
+const OPTIONS: Options = Options {
+    machine: AMD64,
+    mingw: false,
+    compat: false,
+};
+
+/// Exports with names of 40 bytes. The last ones are aliases, whose targets are spread over the others.
+fn measured_list(exports: usize, aliases: usize) -> Vec<u8> {
+    let plain = exports - aliases;
+    let name = |k: usize| format!("att_display_horizon_step_number_{k:08}");
+    let target = |k: usize| name((k - plain) * plain / aliases);
+    let record = |k: usize| {
+        if k < plain {
+            Record::new(&name(k))
+        } else {
+            Record::new(&name(k)).import_name(&target(k))
+        }
+    };
+    let records: Vec<Record> = (0..exports).map(record).collect();
+    encode_list(b"att.dll", &records, &[])
+}
+
+fn timed(run: impl FnOnce() -> bool) -> u128 {
+    let start = Instant::now();
+    let done = run();
+    let time = start.elapsed().as_nanos();
+    assert!(done, "the measured list is refused");
+    time
+}
+
+fn median(mut times: Vec<u128>) -> u128 {
+    times.sort_unstable();
+    times[times.len() / 2]
+}
+
+/// The median times in nanoseconds of the check, of the library's writer and of the plain program. The runs take turns, so that
+/// a busy machine is busy for all.
+fn measure(list: &[u8]) -> [u128; 3] {
+    let mut out = vec![0; ROOM];
+    let mut times = [const { Vec::new() }; 3];
+    for _ in 0..RUNS {
+        times[0].push(timed(|| {
+            library::check(black_box(list), AMD64, false).is_none()
+        }));
+        out.fill(0);
+        times[1].push(timed(|| {
+            library::write(black_box(list), OPTIONS, &mut out).is_ok()
+        }));
+        black_box(&mut out).fill(0);
+        times[2].push(timed(|| {
+            plain::write(black_box(list), OPTIONS, &mut out).is_ok()
+        }));
+        black_box(&mut out);
+    }
+    times.map(median)
+}
+
+/// Both write the same set.
+fn same_set(list: &[u8]) -> Result<(), Difference> {
+    let (mut ours, mut plainly) = (vec![0; ROOM], vec![0; ROOM]);
+    let answers = [
+        library::write(list, OPTIONS, &mut ours),
+        plain::write(list, OPTIONS, &mut plainly),
+    ];
+    if answers[0].is_ok() && answers[0] == answers[1] && ours == plainly {
+        Ok(())
+    } else {
+        Err(Difference("the measured sets are not the same".into()))
+    }
+}
+
+pub fn bench() -> Result<String, Difference> {
+    println!(
+        "{:>8} {:>8} {:>12} {:>12} {:>12} {:>14}",
+        "exports", "aliases", "check, ns", "write, ns", "plain, ns", "write / plain"
+    );
+    for (exports, aliases) in [(512, 0), (1024, 0), (2048, 0), (4096, 0), (4096, ALIASES)] {
+        let list = measured_list(exports, aliases);
+        same_set(&list)?;
+        let [check, write, plain] = measure(&list);
+        println!(
+            "{exports:>8} {aliases:>8} {check:>12} {write:>12} {plain:>12} {:>14.2}",
+            write as f64 / plain as f64
+        );
+    }
+    Ok(format!("names of 40 bytes, median of {RUNS}, AMD64"))
+}

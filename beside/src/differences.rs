@@ -1,0 +1,170 @@
+//! Where the library does otherwise than the Rust on purpose: the smallest inputs, with both answers.
+
+use oracle::ask::{AMD64, ARM64EC, FIXED_MEMBERS, answer_list, import_alone, symbols};
+use oracle::imports::ShortImport;
+use oracle::list::DATA;
+use oracle::set::lay_out;
+use oracle::{Answer, Case, Member, Options, Record};
+
+use crate::judge::{Difference, Question, same};
+use crate::layouts::members;
+use crate::library;
+use crate::order::Refusal;
+
+/// What the Rust says, as far as a row asks.
+#[derive(Clone, Copy, Debug, PartialEq)]
+enum Rust {
+    Members,
+    Error,
+    Panic,
+    CannotBeGiven,
+}
+
+impl Rust {
+    fn of(case: &Case) -> Self {
+        match answer_list(&case.list, case.options) {
+            Answer::Members(_) => Rust::Members,
+            Answer::Error { .. } => Rust::Error,
+            Answer::Panic => Rust::Panic,
+            _ => Rust::CannotBeGiven,
+        }
+    }
+}
+
+struct Row {
+    what: &'static str,
+    case: Case,
+    rust: Rust,
+    refusal: Refusal,
+}
+
+fn row(what: &'static str, case: Case, rust: Rust, number: u32) -> Row {
+    Row {
+        what,
+        case,
+        rust,
+        refusal: (number, 0),
+    }
+}
+
+fn named(name: Vec<u8>) -> Record {
+    Record {
+        name: Some(name),
+        ..Record::default()
+    }
+}
+
+fn rows() -> Vec<Row> {
+    let emptied = [Record::new("_a").symbol_name("a").ext_name("_")];
+    let dll = |name: &str| Case::new(AMD64, &[]).dll(name);
+    let name = |name: Vec<u8>| Case::new(AMD64, &[named(name)]);
+    let many = vec![Record::new("a"); 4097];
+    vec![
+        row(
+            "public name empty",
+            Case::new(AMD64, &emptied),
+            Rust::Members,
+            12,
+        ),
+        row(
+            "public name empty, ARM64EC",
+            Case::new(ARM64EC, &emptied),
+            Rust::Panic,
+            12,
+        ),
+        row("DLL name x/a.dll", dll("x/a.dll"), Rust::Members, 10),
+        row("DLL name x\\a.dll", dll("x\\a.dll"), Rust::Members, 10),
+        row("DLL name x:a.dll", dll("x:a.dll"), Rust::Members, 10),
+        row("DLL name .", dll("."), Rust::Error, 10),
+        row("DLL name ..", dll(".."), Rust::Error, 10),
+        row("DLL name with NUL", dll("\0"), Rust::Members, 8),
+        row("name of one byte 0", name(vec![0]), Rust::Members, 8),
+        row(
+            "name of 4,096 bytes",
+            name(vec![b'a'; 4096]),
+            Rust::Members,
+            7,
+        ),
+        row(
+            "DLL name of 256 bytes",
+            dll(&"a".repeat(256)),
+            Rust::Members,
+            7,
+        ),
+        row("4,097 exports", Case::new(AMD64, &many), Rust::Members, 3),
+        row("empty name", name(Vec::new()).dll("a"), Rust::Members, 6),
+    ]
+}
+
+pub fn differences() -> Result<String, Difference> {
+    let rows = rows();
+    println!("{:<34} {:<14} here", "what", "the Rust");
+    for row in &rows {
+        let Row {
+            what,
+            case,
+            rust,
+            refusal,
+        } = row;
+        told(what, *rust, &format!("refusal {}", refusal.0));
+        hold(what, *rust, case)?;
+        Question::of(case).judge(&Err(*refusal))?;
+    }
+    not_utf8()?;
+    symbol_not_utf8()?;
+    Ok(format!("differences: {} kept", rows.len() + 2))
+}
+
+fn told(what: &str, rust: Rust, here: &str) {
+    println!("{what:<34} {:<14} {here}", format!("{rust:?}"));
+}
+
+fn hold(what: &str, wanted: Rust, case: &Case) -> Result<(), Difference> {
+    same(what, wanted, Rust::of(case)).map_err(Difference)
+}
+
+/// The set is that of another name with the byte in its place.
+fn not_utf8() -> Result<(), Difference> {
+    let what = "name of one byte FF";
+    let case = |byte| Case::new(AMD64, &[named(vec![byte])]);
+    let written = case(b'#').answer();
+    let Answer::Members(members) = written else {
+        return Err(Difference(format!("{what}: the Rust says {written:?}")));
+    };
+    let mut set = lay_out(&members);
+    for byte in set.iter_mut().filter(|byte| **byte == b'#') {
+        *byte = 0xFF;
+    }
+    told(what, Rust::CannotBeGiven, "members");
+    hold(what, Rust::CannotBeGiven, &case(0xFF))?;
+    Question::of(&case(0xFF)).judge(&Ok(set))
+}
+
+/// The member that the library writes; the Rust's reader of its symbols panics.
+fn symbol_not_utf8() -> Result<(), Difference> {
+    let what = "ARM64EC symbol of one byte FF";
+    let case = Case::new(ARM64EC, &[named(vec![0xFF]).flags(DATA)]);
+    let member = Member {
+        bytes: last_member(&case)?,
+        ..some_import()
+    };
+    told(what, Rust::Panic, "written");
+    same(what, None, symbols(&member)).map_err(Difference)?;
+    let symbol = ShortImport::of(&member).map(|import| import.symbol);
+    same(what, Some(&[0xFF][..]), symbol).map_err(Difference)
+}
+
+/// The only member of a list's own, as the library writes it.
+fn last_member(case: &Case) -> Result<Vec<u8>, Difference> {
+    let mut set = vec![0; 1 << 12];
+    let Question { list, options } = Question::of(case);
+    let total = library::write(&list, options, &mut set)
+        .map_err(|refusal| Difference(format!("{case:?} is refused {refusal:?}")))?;
+    let members = members(&set[..total], [1, 0]).map_err(Difference)?;
+    Ok(members[FIXED_MEMBERS].to_vec())
+}
+
+/// A short import of the Rust, for its reader.
+fn some_import() -> Member {
+    import_alone(Record::new("a"), Options::of(ARM64EC)).expect("the Rust takes this name")
+}

@@ -1,0 +1,2 @@
+-- Laws of what crosses to other languages.
+pub mod Fields

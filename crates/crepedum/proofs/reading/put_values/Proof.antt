@@ -1,0 +1,13 @@
+-- `crepedum::reading::put_values` meets its contract.
+use borrow.Author.Needs.{needs}
+use Rattle.crepedum.proofs.reading.put_values.Statement.{statement}
+use Rattle.crepedum.proofs.reading.put_values.Tie as tie
+
+returns : tie.Need-returns
+returns c = rw (c .before .before .before .before .before .before .before .before .before .before .before .bit .ensures) at (c .before .before .put-all .ensures)
+
+pub put-values-spec : {M : Type 1} → statement M
+put-values-spec =
+    tie.close
+    (tie.spec (λ c κs. search needs) (λ c. search needs) (λ c. search needs) (λ c. search needs) (λ c. search needs)
+    (λ c. search needs) (λ c. search needs) (λ c. search needs) (λ c κs. search needs) (λ c. search needs) returns)

@@ -1,0 +1,231 @@
+-- The member set: all members drawn, the header before them, and the writer's answer.
+use Prim.Native.Nat.{ℕ, _+_, _*_, _-_, _/_, _≤_, _<_}
+use mathlib.Core.Path.{_≡_, refl, sym, ap, ap₂, _∙_}
+use mathlib.Core.Bool.{Bool, true, false}
+use mathlib.Core.List.{List, [], _∷_, _++_, map, append-nil, append-assoc}
+use native.Mathlib.Nat.{sub-zero}
+use native.Mathlib.Omega.{arith}
+use lib.Dec.{ltb}
+use lib.ListN.{length, take, drop, length-append, length-map}
+use borrow.Author.Tests.{lt-ltb, le-ltb}
+use Rattle.wire.specs.Bytes.{Bytes, Octets, le32, part, join}
+use Rattle.wire.specs.Writes.{over, Wrote}
+use Rattle.wire.proofs.Bytes.{length-part}
+use Rattle.wire.proofs.Writes.{over-over, over-comm, over-exact}
+use Rattle.format.specs.Machines.{firstMachine, nativeMachine}
+use Rattle.format.specs.Exports.{Export, firstCount, nativeCount, bothCounts, namesAt, dllField, offsetOf, lengthOf, bytesAt, dllName, exportsFrom, firstExports, nativeExports}
+use Rattle.format.specs.Names.{stem}
+use Rattle.format.specs.Layouts.{Member, encode}
+use Rattle.format.specs.Library.{Options, setHeaderSize, entrySize, firstMemberAt, directory, membersOf, fixedMembers, firstMembers, nativeMembers, allMembers, setBytes, memberSet}
+use Rattle.format.specs.Refusals.{Row, row, earliest, machineRows, listRows, exportRows, acceptRows, roomRows, allRows, checkList, checkExports, checkAll}
+use Rattle.format.specs.Answers.{total, written, leaves, outputAfter}
+use Rattle.format.specs.declared.Checked.{Checked}
+use Rattle.format.specs.declared.Checked.the-variants.{Fine, Refused}
+use Rattle.format.specs.declared.Written.{Written}
+use Rattle.format.specs.declared.Written.the-variants as W
+use Rattle.format.proofs.Rows.{fine-before, fine-after, earliest-given, earliest-passed, earliest-none, earliest-append, andThen-stops, andThen-goes-on}
+use Rattle.format.proofs.Listed.{Listed, listed, dll-few, dll-inside}
+use Rattle.names.specs.Dll.{Stem}
+use Rattle.laws.proofs.Accepted.{accepted}
+use Rattle.laws.proofs.Totals.{maxMember, first-few, native-few, members-small, length-directory, length-setBytes}
+use Rattle.walks.specs.Pen.{Room, Drew, fixedOf}
+use Rattle.library.specs.Sets.{membersBy, DrewBy, DrewAll, farthest, Measured, headerBytes}
+use Rattle.walks.proofs.Pens.{room-as, room-first, room-next, drew-as, drew-more, drew-length}
+
+-- ---- the fixed members, the first list, the native list
+
+pub stem-part : {dll s : Bytes} {r : ℕ} → Stem dll r → s ≡ part dll 0 r → s ≡ stem dll
+unfolding part
+stem-part p e = e ∙ p .bytes
+
+pub counts-small : (b : Bytes) {first native : ℕ} → checkList b ≡ Fine → first ≡ firstCount b → native ≡ nativeCount b → (first ≤ 4096) × (native ≤ 4096) × (first + native ≡ bothCounts b)
+counts-small b e f g = let l = listed b e in (omega (arith, l .shape .firsts), omega (arith, l .shape .natives), omega (arith, f, g))
+
+pub dll-small : (b : Bytes) {s : Bytes} → checkList b ≡ Fine → s ≡ dllName b → length s ≤ 255
+unfolding bytesAt
+dll-small b {s} e f =
+    let l = listed b e in
+    omega (arith, ap length f, length-part b (namesAt b + offsetOf b dllField) (lengthOf b dllField) (dll-inside b l), dll-few b l)
+
+module _ (first native : ℕ) (mingw compat : Bool) (dll b : Bytes) {entry at : ℕ} (room : Room entry at (membersBy first native mingw compat dll b)) where
+  abbrev fixed : List Member
+  fixed = fixedOf native dll compat
+
+  abbrev firsts : List Member
+  firsts = membersOf first mingw dll (firstExports b)
+
+  abbrev natives : List Member
+  natives = membersOf native mingw dll (nativeExports b)
+
+  two-room : Room entry at (fixed ++ firsts)
+  two-room = room-first (fixed ++ firsts) natives room
+
+  pub set-fixed : Room entry at (fixedOf native dll compat)
+  set-fixed = room-first fixed firsts two-room
+
+  module _ {l l₁ : Bytes} {entry₁ at₁ : ℕ} (p : Drew l entry at (fixedOf native dll compat) l₁ entry₁ at₁) {count : ℕ} (c : count ≡ firstCount b) where
+    first-is : membersOf first mingw dll (exportsFrom b 0 (count - 0)) ≡ firsts
+    unfolding firstExports
+    first-is = ap (λ (n : ℕ). membersOf first mingw dll (exportsFrom b 0 n)) (sub-zero count ∙ c)
+
+    pub set-first : Room entry₁ at₁ (membersOf first mingw dll (exportsFrom b 0 (count - 0)))
+    set-first = room-as (sym first-is) (room-next fixed firsts two-room p)
+
+    module _ {l₂ : Bytes} {entry₂ at₂ : ℕ} (q : Drew l₁ entry₁ at₁ (membersOf first mingw dll (exportsFrom b 0 (count - 0))) l₂ entry₂ at₂) {both : ℕ} (d : both ≡ count + nativeCount b) where
+      native-is : membersOf native mingw dll (exportsFrom b count (both - count)) ≡ natives
+      unfolding nativeExports
+      native-is =
+          let n : both - count ≡ nativeCount b = omega arith in
+          ap₂ (λ (k n : ℕ). membersOf native mingw dll (exportsFrom b k n)) c n
+
+      two-drew : Drew l entry at (fixed ++ firsts) l₂ entry₂ at₂
+      two-drew = drew-more (set-fixed .apart) p (drew-as first-is q)
+
+      pub set-native : Room entry₂ at₂ (membersOf native mingw dll (exportsFrom b count (both - count)))
+      set-native = room-as (sym native-is) (room-next (fixed ++ firsts) natives room two-drew)
+
+      pub set-drew : {l₃ : Bytes} {entry₃ at₃ : ℕ} → Drew l₂ entry₂ at₂ (membersOf native mingw dll (exportsFrom b count (both - count))) l₃ entry₃ at₃
+          → DrewBy first native mingw compat dll b l entry at l₃ entry₃ at₃ ((entry₂ - entry₁) / 8) ((entry₃ - entry₂) / 8)
+      set-drew r =
+          record {
+            drew = drew-more (two-room .apart) two-drew (drew-as native-is r);
+            firstCount = omega (arith, drew-as first-is q .entries);
+            nativeCount = omega (arith, drew-as native-is r .entries);
+          }
+
+-- ---- the same under the options of a list
+
+module _ (o : Options) (b : Bytes) where
+  all-is : membersBy (firstMachine (o .machine)) (nativeMachine (o .machine)) (o .mingw) (o .compat) (dllName b) b ≡ allMembers o b
+  unfolding allMembers fixedMembers firstMembers nativeMembers
+  all-is = refl
+
+  module _ {first native : ℕ} {dll : Bytes} (e : first ≡ firstMachine (o .machine)) (f : native ≡ nativeMachine (o .machine)) (g : dll ≡ dllName b) where
+    pub all-room : {entry at : ℕ} → Room entry at (allMembers o b) → Room entry at (membersBy first native (o .mingw) (o .compat) dll b)
+    all-room r = rw (e, f, g) (room-as (sym all-is) r)
+
+    pub all-drew : {l l′ : Bytes} {entry at entry′ at′ firsts natives : ℕ} → DrewBy first native (o .mingw) (o .compat) dll b l entry at l′ entry′ at′ firsts natives
+        → DrewAll o b l entry at l′ entry′ at′ firsts natives
+    unfolding firstMembers nativeMembers
+    all-drew d =
+        let d′ = rw (e, f, g) at d in
+        record { drew = drew-as all-is (d′ .drew); firstCount = d′ .firstCount; nativeCount = d′ .nativeCount }
+
+-- ---- nothing is drawn into nothing
+
+pub drew-nothing : {o : Options} {b l l′ : Bytes} {entry at entry′ at′ firsts natives : ℕ} → length l ≡ 0 → DrewAll o b l entry at l′ entry′ at′ firsts natives → l′ ≡ []
+drew-nothing z d = nil _ (drew-length (d .drew) ∙ z)
+  where
+    nil : (l : Bytes) → length l ≡ 0 → l ≡ []
+    nil [] e = refl
+    nil (x ∷ l) e = absurd (omega arith)
+
+module _ (n out : Bytes) (e : n ≡ []) where
+  pub after-nothing : n ++ out ≡ out
+  after-nothing = rw e
+
+  pub drew-after-nothing : {o : Options} {b l′ : Bytes} {entry at entry′ at′ firsts natives : ℕ} → DrewAll o b (n ++ out) entry at l′ entry′ at′ firsts natives
+      → DrewAll o b out entry at l′ entry′ at′ firsts natives
+  drew-after-nothing d = rw e at d
+
+-- ---- an accepted list
+
+pub list-accepted : (o : Options) (b : Bytes) → checkExports o b ≡ Fine → checkList b ≡ Fine
+unfolding checkExports acceptRows checkList
+list-accepted o b e = fine-after (machineRows (o .machine)) (listRows b) (fine-before (machineRows (o .machine) ++ listRows b) (exportRows o b) e)
+
+zero-more : (n : ℕ) → n ≡ 0 + n
+zero-more n = omega arith
+
+count-all : (o : Options) (b : Bytes) → length (allMembers o b) ≡ 3 + length (firstMembers o b) + length (nativeMembers o b)
+unfolding allMembers fixedMembers
+count-all o b =
+    omega (arith, length-append (fixedMembers o b ++ firstMembers o b) (nativeMembers o b), length-append (fixedMembers o b) (firstMembers o b))
+
+module _ (o : Options) (b : Bytes) (small : Octets b) (e : checkExports o b ≡ Fine) where
+  pub far-room : Room setHeaderSize farthest (allMembers o b)
+  far-room = let (few, long) = members-small o b small e in record { apart = omega arith; small = omega arith }
+
+  module _ {firstAt end firsts natives : ℕ} (m : Measured o b firstAt end firsts natives) where
+    pub measured-small : (firsts ≤ 8192) × (natives ≤ 8192) × (firstAt < 4294967296) × (farthest ≤ end) × (end < 4294967296)
+    measured-small =
+        let (few, long) = members-small o b small e in
+        let a = accepted o b e in (
+          omega (arith, m .firstCount, first-few o b a),
+          omega (arith, m .nativeCount, native-few o b a),
+          omega (arith, m .entries),
+          omega (arith, m .bytes),
+          omega (arith, m .bytes),
+        )
+
+    pub set-room : Room setHeaderSize firstAt (allMembers o b)
+    set-room = let (few, long) = members-small o b small e in record { apart = omega (arith, m .entries); small = omega (arith, m .entries) }
+
+    pub measured-total : firstAt + (end - farthest) ≡ length (memberSet o b)
+    unfolding memberSet
+    measured-total =
+        omega (arith, m .entries, m .bytes, length-map (allMembers o b) encode, length-setBytes (length (firstMembers o b)) (length (nativeMembers o b)) (map encode (allMembers o b)))
+
+    -- members and directory drawn, then the header: the set
+    module _ {l l₁ l₂ : Bytes} {entry₁ at₁ f n r : ℕ} (fits : length (memberSet o b) ≤ length l) (d : DrewAll o b l setHeaderSize firstAt l₁ entry₁ at₁ f n)
+        (w : Wrote l₁ 0 (headerBytes firsts natives firstAt) l₂ r) where
+      abbrev ms : List Bytes
+      ms = map encode (allMembers o b)
+
+      abbrev header : Bytes
+      header = headerBytes firsts natives firstAt
+
+      before : length (header ++ directory firstAt ms) ≡ firstAt
+      before = omega (arith, m .entries, length-append header (directory firstAt ms), length-directory firstAt ms, length-map (allMembers o b) encode)
+
+      abbrev at₀ : ℕ
+      at₀ = firstMemberAt (3 + length (firstMembers o b) + length (nativeMembers o b))
+
+      whole : (header ++ directory firstAt ms) ++ join ms ≡ memberSet o b
+      unfolding memberSet setBytes join
+      whole =
+          let count : firstAt ≡ firstMemberAt (3 + length (firstMembers o b) + length (nativeMembers o b)) = omega (arith, m .entries, count-all o b) in
+          rw (m .firstCount, m .nativeCount, count)
+          (ap (λ (t : Bytes). (headerBytes (length (firstMembers o b)) (length (nativeMembers o b)) at₀ ++ directory at₀ ms) ++ t) (sym (append-nil (join ms))))
+
+      laid : l₂ ≡ over 0 (memberSet o b) l
+      laid =
+          w .bytes ∙ ap (over 0 header) (d .drew .bytes) ∙ sym (over-comm 0 16 header (directory firstAt ms) (over firstAt (join ms) l) (omega arith))
+          ∙ over-over 0 header (directory firstAt ms) (over firstAt (join ms) l)
+          ∙ sym (over-comm 0 firstAt (header ++ directory firstAt ms) (join ms) l (omega (arith, before)))
+          ∙ ap (λ (k : ℕ). over k (join ms) (over 0 (header ++ directory firstAt ms) l)) (sym before ∙ zero-more (length (header ++ directory firstAt ms)))
+          ∙ over-over 0 (header ++ directory firstAt ms) (join ms) l ∙ ap (λ (t : Bytes). over 0 t l) whole
+
+      pub set-written : l₂ ≡ memberSet o b ++ drop (length (memberSet o b)) l
+      set-written = laid ∙ over-exact 0 (memberSet o b) l (omega (arith, fits)) ∙ ap (λ (k : ℕ). memberSet o b ++ drop k l) (sym (zero-more (length (memberSet o b))))
+
+-- ---- the writer's answer
+
+module _ (o : Options) (b out : Bytes) where
+  abbrev room-row : Row
+  room-row = row 15 0 (ltb (length out) (length (memberSet o b)))
+
+  pub written-stop : (number place : ℕ) → checkExports o b ≡ Refused number place → (W.Refused number place ≡ written o b (length out)) × (out ≡ outputAfter o b out)
+  unfolding written outputAfter checkAll allRows checkExports total leaves
+  written-stop number place e =
+      let stops : earliest (acceptRows o b ++ roomRows o b (length out)) ≡ Refused number place =
+      earliest-append (acceptRows o b) (roomRows o b (length out)) ∙ andThen-stops _ _ number place e in
+      (rw stops, rw stops)
+
+  module _ (e : checkExports o b ≡ Fine) where
+    last-row : checkAll o b (length out) ≡ earliest (room-row ∷ [])
+    unfolding checkAll allRows checkExports roomRows
+    last-row = earliest-append (acceptRows o b) (roomRows o b (length out)) ∙ andThen-goes-on _ _ e
+
+    pub written-15 : length out < length (memberSet o b) → (W.Refused 15 0 ≡ written o b (length out)) × (out ≡ outputAfter o b out)
+    unfolding written outputAfter total leaves
+    written-15 h =
+        let stops : checkAll o b (length out) ≡ Refused 15 0 = last-row ∙ earliest-given room-row [] (lt-ltb (length out) (length (memberSet o b)) h) in
+        (rw stops, rw stops)
+
+    pub written-total : {t : ℕ} {l : Bytes} → length (memberSet o b) ≤ length out → t ≡ length (memberSet o b) → l ≡ memberSet o b ++ drop (length (memberSet o b)) out
+        → (W.Total t ≡ written o b (length out)) × (l ≡ outputAfter o b out)
+    unfolding written outputAfter total leaves
+    written-total h t l =
+        let fine : checkAll o b (length out) ≡ Fine = last-row ∙ earliest-passed room-row [] (le-ltb (length out) (length (memberSet o b)) h) ∙ earliest-none in
+        (rw (fine, t), rw (fine) l)

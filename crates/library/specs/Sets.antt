@@ -1,0 +1,43 @@
+-- All members of a library, by the machines of the two lists; and what drawing them tells.
+use Prim.Native.Nat.{ℕ, _+_, _*_}
+use mathlib.Core.Path.{_≡_}
+use mathlib.Core.Bool.{Bool}
+use mathlib.Core.List.{List, map, _++_}
+use lib.ListN.{length}
+use Rattle.wire.specs.Bytes.{Bytes, le32, join}
+use Rattle.format.specs.Exports.{firstExports, nativeExports}
+use Rattle.format.specs.Layouts.{Member, encode}
+use Rattle.format.specs.Library.{Options, setHeaderSize, entrySize, membersOf, firstMembers, nativeMembers, allMembers}
+use Rattle.walks.specs.Pen.{Drew, fixedOf}
+
+-- the three fixed members, the first list and the native list
+abbrev pub membersBy : ℕ → ℕ → Bool → Bool → Bytes → Bytes → List Member
+membersBy first native mingw compat dll b =
+    fixedOf native dll compat ++ membersOf first mingw dll (firstExports b) ++ membersOf native mingw dll (nativeExports b)
+
+-- all of them were drawn, and so many of each list
+pub record DrewBy (first native : ℕ) (mingw compat : Bool) (dll b l : Bytes) (entry at : ℕ) (l′ : Bytes) (entry′ at′ firsts natives : ℕ) : Type 0 where
+  pub drew : Drew l entry at (membersBy first native mingw compat dll b) l′ entry′ at′
+  pub firstCount : firsts ≡ length (membersOf first mingw dll (firstExports b))
+  pub nativeCount : natives ≡ length (membersOf native mingw dll (nativeExports b))
+
+-- the same of a list under its options
+pub record DrewAll (o : Options) (b l : Bytes) (entry at : ℕ) (l′ : Bytes) (entry′ at′ firsts natives : ℕ) : Type 0 where
+  pub drew : Drew l entry at (allMembers o b) l′ entry′ at′
+  pub firstCount : firsts ≡ length (firstMembers o b)
+  pub nativeCount : natives ≡ length (nativeMembers o b)
+
+-- where all members are measured from: no first member of a set stands farther
+abbrev pub farthest : ℕ
+farthest = setHeaderSize + entrySize * 16387
+
+-- how large a set is: where its first member stands, the bytes of its members, and how many each list has
+pub record Measured (o : Options) (b : Bytes) (firstAt end firsts natives : ℕ) : Type 0 where
+  pub entries : firstAt ≡ setHeaderSize + entrySize * length (allMembers o b)
+  pub bytes : end ≡ farthest + length (join (map encode (allMembers o b)))
+  pub firstCount : firsts ≡ length (firstMembers o b)
+  pub nativeCount : natives ≡ length (nativeMembers o b)
+
+-- the header of a set
+abbrev pub headerBytes : ℕ → ℕ → ℕ → Bytes
+headerBytes firsts natives firstAt = le32 (3 + firsts + natives) ++ le32 firsts ++ le32 natives ++ le32 firstAt

@@ -1,0 +1,151 @@
+// The member set: the three fixed members, both lists, the directory and the header.
+use coff::machines;
+use coff::machines::Machine;
+use format::Written;
+use lists::record;
+use walks::pen::ENTRY_SIZE;
+use walks::pen::Pen;
+use walks::pen::draw_fixed;
+use walks::walk::draw_list;
+ghost use mathlib.Core.Path.{_≡_};
+ghost use mathlib.Core.List.{[]};
+ghost use Prim.Native.Nat.{_+_, _≤_, _<_};
+ghost use lib.ListN.{length};
+ghost use Rattle.wire.specs.Writes.{Wrote};
+ghost use Rattle.format.specs.Library.{allMembers};
+ghost use Rattle.format.specs.Refusals.{checkList, checkExports};
+ghost use Rattle.format.specs.Answers.{written, outputAfter};
+ghost use Rattle.format.specs.declared.Checked.the-variants.{Fine};
+ghost use Rattle.coff.specs.Machines.{IsMachine};
+ghost use Rattle.walks.specs.Pen.{Room};
+ghost use Rattle.library.specs.Sets.{membersBy, DrewBy, DrewAll, Measured, headerBytes};
+
+// How many bytes the header of a set has.
+const HEADER_SIZE: usize = 16;
+
+// A set has at most the three fixed members and two for each of 8,192 exports; where its first member then stands.
+const FARTHEST: usize = HEADER_SIZE + ENTRY_SIZE * 16387;
+
+// The fixed members of a set.
+const FIXED: usize = 3;
+
+// Where the pen stands after all members, and how many each list has.
+pub struct Drawn {
+    pub pen: Pen,
+    pub firsts: usize,
+    pub natives: usize,
+}
+
+// All members, by the machines of the two lists.
+fn draw_members(
+    out: &mut [u8],
+    pen: Pen,
+    b: &[u8],
+    dll: &[u8],
+    first: u16,
+    native: Machine,
+    mingw: bool,
+    compat: bool,
+) -> Drawn
+    requires { ⌜ Room (pen .entry) (pen .at) (membersBy first (native .number) mingw compat (now dll) (now b)) ⌝ }
+    requires { ⌜ checkList (now b) ≡ Fine ⌝ }
+    requires { ⌜ IsMachine native ⌝ }
+    requires { ⌜ length (now dll) ≤ 255 ⌝ }
+    ensures { λ r. ⌜ DrewBy first (native .number) mingw compat (now (dll .entry)) (now (b .entry)) (now (out .entry)) (pen .entry) (pen .at) (now (out .exit)) (r .pen .entry) (r .pen .at) (r .firsts) (r .natives) ⌝ }
+{
+    let stem = wire::part(dll, 0, names::dll::stem(dll));
+    let count = wire::u32_at(b, lists::FIRST_COUNT);
+    let both = count + wire::u32_at(b, lists::NATIVE_COUNT);
+    let fixed = draw_fixed(out, pen, native, dll, stem, compat);
+    let firsts = draw_list(out, fixed, b, dll, first, mingw, 0, count);
+    let natives = draw_list(out, firsts, b, dll, native.number, mingw, count, both);
+    Drawn {
+        pen: natives,
+        firsts: (firsts.entry - fixed.entry) / ENTRY_SIZE,
+        natives: (natives.entry - firsts.entry) / ENTRY_SIZE,
+    }
+}
+
+// All members of a list.
+fn draw_all(
+    out: &mut [u8],
+    pen: Pen,
+    b: &[u8],
+    machine: Machine,
+    mingw: bool,
+    compat: bool,
+) -> Drawn
+    requires { ⌜ Room (pen .entry) (pen .at) (allMembers (record { machine = machine .number; mingw = mingw; compat = compat }) (now b)) ⌝ }
+    requires { ⌜ checkList (now b) ≡ Fine ⌝ }
+    requires { ⌜ IsMachine machine ⌝ }
+    ensures { λ r. ⌜ DrewAll (record { machine = machine .number; mingw = mingw; compat = compat }) (now (b .entry)) (now (out .entry)) (pen .entry) (pen .at) (now (out .exit)) (r .pen .entry) (r .pen .at) (r .firsts) (r .natives) ⌝ }
+{
+    let first = machines::first_machine(machine);
+    let native = machines::native_machine(machine);
+    draw_members(
+        out,
+        pen,
+        b,
+        record::dll(b),
+        first.number,
+        native,
+        mingw,
+        compat,
+    )
+}
+
+// How large the set of an accepted list is: all members are drawn into an output without room.
+fn measure(none: &mut [u8], b: &[u8], machine: Machine, mingw: bool, compat: bool) -> Drawn
+    requires { ⌜ length (now none) ≡ 0 ⌝ }
+    requires { ⌜ checkExports (record { machine = machine .number; mingw = mingw; compat = compat }) (now b) ≡ Fine ⌝ }
+    requires { ⌜ IsMachine machine ⌝ }
+    ensures { λ r. ⌜ (now (none .exit) ≡ []) × Measured (record { machine = machine .number; mingw = mingw; compat = compat }) (now (b .entry)) (r .pen .entry) (r .pen .at) (r .firsts) (r .natives) ⌝ }
+{
+    let pen = Pen {
+        entry: HEADER_SIZE,
+        at: FARTHEST,
+    };
+    draw_all(none, pen, b, machine, mingw, compat)
+}
+
+// The header of a set.
+fn put_header(out: &mut [u8], firsts: usize, natives: usize, first_at: usize) -> usize
+    requires { ⌜ (firsts ≤ 8192) × (natives ≤ 8192) × («first_at» < 4294967296) ⌝ }
+    ensures { λ r. ⌜ Wrote (now (out .entry)) 0 (headerBytes firsts natives «first_at») (now (out .exit)) r ⌝ }
+{
+    let a = wire::put_u32(out, 0, (FIXED + firsts + natives) as u32);
+    let b = wire::put_u32(out, a, firsts as u32);
+    let c = wire::put_u32(out, b, natives as u32);
+    wire::put_u32(out, c, first_at as u32)
+}
+
+// The set of an accepted list: its size first, then its members, then its header.
+pub fn write_accepted(
+    b: &[u8],
+    machine: Machine,
+    mingw: bool,
+    compat: bool,
+    out: &mut [u8],
+) -> Written
+    requires { ⌜ checkExports (record { machine = machine .number; mingw = mingw; compat = compat }) (now b) ≡ Fine ⌝ }
+    requires { ⌜ IsMachine machine ⌝ }
+    ensures { λ r. ⌜ (r ≡ written (record { machine = machine .number; mingw = mingw; compat = compat }) (now (b .entry)) (length (now (out .entry)))) × (now (out .exit) ≡ outputAfter (record { machine = machine .number; mingw = mingw; compat = compat }) (now (b .entry)) (now (out .entry))) ⌝ }
+{
+    let room = out.len();
+    let size = measure(&mut out[..0], b, machine, mingw, compat);
+    let first_at = size.pen.entry;
+    let total = first_at + (size.pen.at - FARTHEST);
+    if room < total {
+        return Written::Refused {
+            number: 15,
+            place: 0,
+        };
+    }
+    let pen = Pen {
+        entry: HEADER_SIZE,
+        at: first_at,
+    };
+    draw_all(out, pen, b, machine, mingw, compat);
+    put_header(out, size.firsts, size.natives, first_at);
+    Written::Total(total)
+}

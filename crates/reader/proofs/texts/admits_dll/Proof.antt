@@ -1,0 +1,17 @@
+-- `reader::texts::admits_dll` meets its contract.
+use mathlib.Core.Path.{sym, _∙_}
+use Rattle.wire.proofs.Bytes.{not-true, not-false}
+use Rattle.reader.proofs.Admitting.{dll-unfit, dll-by}
+use borrow.Author.Needs.{needs}
+use Rattle.reader.proofs.texts.admits_dll.Statement.{statement}
+use Rattle.reader.proofs.texts.admits_dll.Tie as tie
+
+returns : tie.Need-returns
+returns c = dll-unfit _ (sym (c .before .fits2 .ensures) ∙ not-true _ (c .if1 .taken))
+
+returns-2 : tie.Need-returns-2
+returns-2 c = dll-by _ (sym (c .before .before .fits2 .ensures) ∙ not-false _ (c .before .if1 .left)) (c .barred .ensures)
+
+pub admits-dll-spec : {M : Type 1} → statement M
+admits-dll-spec = tie.close
+    (tie.spec (λ c κs. search needs) returns (λ c κs. search needs) returns-2)

@@ -1,0 +1,3 @@
+-- What the reader looks for, and what it answers for a member.
+pub mod Finds
+pub mod Answers

@@ -1,0 +1,175 @@
+// The reader: any bytes, read exactly where they are one of the five members.
+//
+// The fields are taken from where the one layout that fits the header has them. Whether the member that they make is admitted
+// is tested, and its bytes are looked for part after part: they must end where the bytes end. Nothing is copied; a name is
+// answered by its place.
+pub mod tables; // tables.rt: strings with NUL, and string tables
+pub mod parts; // parts.rt: runs of records
+pub mod layouts; // layouts.rt: the five layouts
+pub mod texts; // texts.rt: names in bytes, and what is admitted
+pub mod answers; // answers.rt: what is answered for a member
+
+use crate::answers::REFUSED;
+use crate::tables::NULL_STRINGS_AT;
+use crate::tables::SYMBOL_AT;
+use crate::tables::WEAK_STRINGS_AT;
+use coff::machines::Found;
+use coff::machines::Machine;
+use coff::records::FileHeader;
+use coff::records::ImportObjectHeader;
+use coff::records::Symbol;
+use format::Read;
+use members::layouts::DESCRIPTOR_SYMBOLS;
+use members::layouts::DLL_AT;
+use members::layouts::WEAK_SYMBOLS;
+use members::tables::IMPORT_DESCRIPTOR_PREFIX;
+use members::tables::NUL;
+use members::tables::NULL_IMPORT_DESCRIPTOR_SYMBOL_NAME;
+use members::tables::NULL_IMPORT_DESCRIPTOR_SYMBOL_NAME_PREFIX;
+use members::tables::NULL_THUNK_DATA_PREFIX;
+use members::tables::NULL_THUNK_DATA_SUFFIX;
+use members::tables::STRINGS_AT;
+ghost use Prim.Native.Nat.{_≤_};
+ghost use mathlib.Core.Path.{_≡_};
+ghost use lib.ListN.{length};
+ghost use Rattle.format.specs.Layouts.{importHeaderSize};
+ghost use Rattle.format.specs.Reader.{descriptorGuess, nullGuess, thunkGuess, shortGuess, weakGuess, readFields};
+ghost use Rattle.reader.specs.Answers.{answer, Ordinary, First, objectGuess};
+
+// How long the name of a null thunk is beside its stem, and an import descriptor beside its DLL name and two stems.
+const NULL_THUNK_DATA: usize = NULL_THUNK_DATA_PREFIX.len() + NULL_THUNK_DATA_SUFFIX.len();
+
+const DESCRIPTOR_SIZE: usize = DLL_AT
+    + NUL
+    + (DESCRIPTOR_SYMBOLS as usize) * Symbol::SIZE
+    + STRINGS_AT
+    + IMPORT_DESCRIPTOR_PREFIX.len()
+    + NUL
+    + NULL_IMPORT_DESCRIPTOR_SYMBOL_NAME.len()
+    + NUL
+    + NULL_THUNK_DATA
+    + NUL;
+
+// An import descriptor. Under compat it is longer, by the stem.
+fn read_descriptor(b: &[u8], machine: Machine) -> Read
+    requires { ⌜ Ordinary machine ⌝ }
+    requires { ⌜ First machine (now b) ⌝ }
+    ensures { λ r. ⌜ r ≡ answer (now (b .entry)) (descriptorGuess (now (b .entry))) ⌝ }
+{
+    let dll = texts::text(b, DLL_AT);
+    if !texts::admits_dll(dll) {
+        return REFUSED;
+    }
+    let n = names::dll::stem(dll);
+    let compat = b.len() != DESCRIPTOR_SIZE + dll.len() + 2 * n;
+    answers::as_descriptor(b, machine, dll, wire::part(dll, 0, n), compat)
+}
+
+// A null import descriptor. Its name ends in the stem, or is the name alone.
+fn read_null_descriptor(b: &[u8], machine: Machine) -> Read
+    requires { ⌜ Ordinary machine ⌝ }
+    requires { ⌜ First machine (now b) ⌝ }
+    ensures { λ r. ⌜ r ≡ answer (now (b .entry)) (nullGuess (now (b .entry))) ⌝ }
+{
+    let name = texts::text(b, NULL_STRINGS_AT);
+    if wire::same(name, &NULL_IMPORT_DESCRIPTOR_SYMBOL_NAME) {
+        return answers::as_null_descriptor(b, machine);
+    }
+    let prefix = NULL_IMPORT_DESCRIPTOR_SYMBOL_NAME_PREFIX.len();
+    if name.len() < prefix {
+        return REFUSED;
+    }
+    answers::as_null_descriptor_of(b, machine, wire::part(name, prefix, name.len() - prefix))
+}
+
+// A null thunk.
+fn read_null_thunk(b: &[u8], machine: Machine) -> Read
+    requires { ⌜ Ordinary machine ⌝ }
+    requires { ⌜ First machine (now b) ⌝ }
+    ensures { λ r. ⌜ r ≡ answer (now (b .entry)) (thunkGuess (now (b .entry))) ⌝ }
+{
+    let name = texts::text(b, answers::thunk_strings_at(machine));
+    if name.len() < NULL_THUNK_DATA {
+        return REFUSED;
+    }
+    let n = name.len() - NULL_THUNK_DATA;
+    answers::as_null_thunk(
+        b,
+        machine,
+        wire::part(name, NULL_THUNK_DATA_PREFIX.len(), n),
+    )
+}
+
+// A weak external.
+fn read_weak(b: &[u8], machine: Machine) -> Read
+    requires { ⌜ Ordinary machine ⌝ }
+    requires { ⌜ First machine (now b) ⌝ }
+    ensures { λ r. ⌜ r ≡ answer (now (b .entry)) (weakGuess (now (b .entry))) ⌝ }
+{
+    let target = texts::text(b, WEAK_STRINGS_AT);
+    let alias = texts::text(b, WEAK_STRINGS_AT + (target.len() + NUL));
+    answers::as_weak(b, machine.number, target, alias)
+}
+
+// A short import. The export string stands only under NameExportas.
+fn read_short(b: &[u8]) -> Read
+    requires { ⌜ importHeaderSize ≤ length (now b) ⌝ }
+    ensures { λ r. ⌜ r ≡ answer (now (b .entry)) (shortGuess (now (b .entry))) ⌝ }
+{
+    let h = ImportObjectHeader::read(b, 0);
+    let types = h.name_type;
+    let name_type = types / members::NAME_TYPE;
+    if !texts::admits_types(h.machine, types % members::NAME_TYPE, name_type) {
+        return REFUSED;
+    }
+    let symbol = texts::text(b, SYMBOL_AT);
+    let dll_at = SYMBOL_AT + (symbol.len() + NUL);
+    let dll = texts::text(b, dll_at);
+    if name_type == members::EXPORT_AS {
+        return answers::as_short_as(
+            b,
+            h.machine,
+            h.ordinal_or_hint,
+            types,
+            symbol,
+            dll,
+            texts::text(b, dll_at + (dll.len() + NUL)),
+        );
+    }
+    answers::as_short(b, h.machine, h.ordinal_or_hint, types, symbol, dll)
+}
+
+// A member with a file header, by its numbers of symbols and sections.
+fn read_object(b: &[u8], machine: Machine, symbols: u32, sections: u16) -> Read
+    requires { ⌜ Ordinary machine ⌝ }
+    requires { ⌜ First machine (now b) ⌝ }
+    ensures { λ r. ⌜ r ≡ answer (now (b .entry)) (objectGuess symbols sections (now (b .entry))) ⌝ }
+{
+    if symbols == DESCRIPTOR_SYMBOLS {
+        return read_descriptor(b, machine);
+    }
+    if symbols == WEAK_SYMBOLS {
+        return read_weak(b, machine);
+    }
+    if sections == 1 {
+        return read_null_descriptor(b, machine);
+    }
+    read_null_thunk(b, machine)
+}
+
+// Reads a member: its layout with its fields, or the refusal.
+pub fn read(b: &[u8]) -> Read
+    ensures { λ r. ⌜ r ≡ readFields (now (b .entry)) ⌝ }
+{
+    if b.len() < FileHeader::SIZE {
+        return REFUSED;
+    }
+    let h = FileHeader::read(b, 0);
+    if h.machine == 0 {
+        return read_short(b);
+    }
+    let Found::Known(machine) = texts::ordinary_machine(h.machine) else {
+        return REFUSED;
+    };
+    read_object(b, machine, h.number_of_symbols, h.number_of_sections)
+}

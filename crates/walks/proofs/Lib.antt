@@ -1,0 +1,4 @@
+pub mod Pens
+pub mod SizeCases
+pub mod Imports
+pub mod Records

@@ -1,0 +1,19 @@
+-- `walks::sizes::short_size` meets its contract.
+use mathlib.Core.Path.{sym, ap, _∙_}
+use Rattle.walks.proofs.SizeCases.{short-exported, short-plain}
+use Rattle.walks.proofs.SizeCases.{short-exported, short-plain}
+use borrow.Author.Needs.{needs}
+use Rattle.walks.proofs.sizes.short_size.Statement.{statement}
+use Rattle.walks.proofs.sizes.short_size.Tie as tie
+
+returns : tie.Need-returns
+returns c = λ m o k. short-exported m o k _ _ _ _ (c .before .before .before .before .before .before .args .head .now) (c .before .before .before .before .before .before .args .tail .now) (c .before .number .ensures) (c .if1 .taken)
+
+returns-2 : tie.Need-returns-2
+returns-2 c = λ m o k. short-plain m o k _ _ _ _ (c .before .before .before .before .before .before .args .head .now) (c .before .before .before .before .before .before .args .tail .now) (c .before .number .ensures) (c .if1 .left)
+
+pub short-size-spec : {M : Type 1} → statement M
+short-size-spec =
+    tie.close
+    (tie.spec (λ c. search needs) (λ c. search needs) (λ c κs. search needs) (λ c. search needs) (λ c. search needs)
+    (λ c. search needs) returns returns-2)

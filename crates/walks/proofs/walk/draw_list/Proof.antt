@@ -1,0 +1,18 @@
+-- `walks::walk::draw_list` meets its contract.
+use Rattle.walks.proofs.Records.{list-first, list-next, list-drew}
+use borrow.Author.Needs.{needs}
+use Rattle.walks.proofs.walk.draw_list.Statement.{statement}
+use Rattle.walks.proofs.walk.draw_list.Tie as tie
+
+draw-pass-requires : tie.Need-draw-pass-requires
+draw-pass-requires c κs = (list-first _ _ _ _ _ _ (c .before .before .before .before .pre .0), c .before .before .before .before .pre .1)
+
+draw-pass-requires-2 : tie.Need-draw-pass-requires-2
+draw-pass-requires-2 c κs = (list-next _ _ _ _ _ _ (c .before .before .before .before .before .before .before .before .pre .0) (c .before .before .before .draw-pass .ensures), c .before .before .before .before .before .before .before .before .pre .1)
+
+returns : tie.Need-returns
+returns c = list-drew _ _ _ _ _ _ (c .before .before .before .before .before .before .before .before .before .before .before .pre .0) (c .before .before .before .before .before .before .draw-pass .ensures) (c .before .before .draw-pass2 .ensures)
+
+pub draw-list-spec : {M : Type 1} → statement M
+draw-list-spec = tie.close
+    (tie.spec draw-pass-requires draw-pass-requires-2 (λ c. search needs) returns)

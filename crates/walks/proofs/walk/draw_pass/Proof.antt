@@ -1,0 +1,45 @@
+-- `walks::walk::draw_pass` meets its contract.
+use Prim.Native.Nat.{_-_, _≤_}
+use mathlib.Core.Path.{refl, sym, ap, _∙_}
+use native.Mathlib.Omega.{arith}
+use lib.ListN.{length}
+use Rattle.format.specs.Exports.{exportsFrom}
+use Rattle.lists.proofs.Records.{held}
+use Rattle.walks.specs.Pen.{Drew}
+use Rattle.walks.specs.Walk.{passMembers}
+use Rattle.walks.proofs.Pens.{drew-as, drew-none, drew-length}
+use Rattle.walks.proofs.Records.{in-none, in-end, pass-room, pass-drew}
+use borrow.Author.Needs.{needs}
+use Rattle.walks.proofs.walk.draw_pass.Statement.{statement}
+use Rattle.walks.proofs.walk.draw_pass.Tie as tie
+
+abbrev Inv-loop : tie.InvT-loop
+Inv-loop out₀ b dll machine mingw from to later next₀ k₀ out next k =
+    (from ≤ k) × (k ≤ to)
+    × Drew out₀ (next₀ .entry) (next₀ .at) (passMembers later machine mingw dll (exportsFrom b from (to - from)) b from (k - from)) out (next .entry) (next .at)
+
+abbrev μ-loop : tie.MeasureT-loop
+μ-loop out₀ b dll machine mingw from to later next₀ k₀ out next k = to - k
+
+loop-holds : tie.Need-loop-holds Inv-loop μ-loop
+loop-holds c = (omega arith, c .before .before .before .pre .1 .1 .0 .0, drew-as (in-none _ _ _) (drew-none _ _ _))
+
+draw-record-requires : tie.Need-draw-record-requires Inv-loop μ-loop
+draw-record-requires c κs = (pass-room _ _ (c .before .before .before .before .before .before .pre .0) (c .before .before .loop .inv .0) (c .before .loop-test .taken) (c .before .before .loop .inv .2), (held _ _ (c .before .before .before .before .before .before .pre .1 .0) (omega (arith, c .before .loop-test .taken, c .before .before .before .before .before .before .pre .1 .1 .0 .1)), (c .before .before .before .before .before .before .pre .1 .0, ((c .before .before .loop .inv .0, c .before .loop-test .taken, c .before .before .before .before .before .before .pre .1 .1 .0 .1), c .before .before .before .before .before .before .pre .1 .1 .1))))
+
+loop-less : tie.Need-loop-less Inv-loop μ-loop
+loop-less c = omega (arith, c .before .before .before .before .loop-test .taken)
+
+loop-again : tie.Need-loop-again Inv-loop μ-loop
+loop-again c = (omega (arith, c .before .before .before .before .before .loop .inv .0), omega (arith, c .before .before .before .before .loop-test .taken), pass-drew _ _ (c .before .before .before .before .before .before .before .before .before .pre .0) (c .before .before .before .before .before .loop .inv .0) (c .before .before .before .before .loop-test .taken) (c .before .before .before .before .before .loop .inv .2) (c .before .before .draw-record .ensures))
+
+same-length : tie.Need-same-length Inv-loop μ-loop
+same-length c = drew-length (c .before .loop .inv .2)
+
+returns : tie.Need-returns Inv-loop μ-loop
+returns c = drew-as (in-end _ _ _ _ _ (c .before .loop .inv .1) (c .loop-test .left)) (c .before .loop .inv .2)
+
+pub draw-pass-spec : {M : Type 1} → statement M
+draw-pass-spec =
+    tie.close
+    (tie.spec Inv-loop μ-loop loop-holds draw-record-requires (λ c. search needs) loop-less loop-again same-length returns)

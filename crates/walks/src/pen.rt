@@ -1,0 +1,179 @@
+// Members drawn into an output, each with its entry in the directory. Into an empty output nothing is written, and the pen moves as it
+// would elsewhere: so a list is measured by the walk that writes it.
+use crate::sizes;
+use coff::import::ImportNameType;
+use coff::import::ImportType;
+use coff::machines::Machine;
+ghost use mathlib.Core.Path.{_≡_};
+ghost use mathlib.Core.List.{[], _∷_, _++_};
+ghost use Prim.Native.Nat.{_+_, _≤_, _<_};
+ghost use lib.ListN.{length};
+ghost use Rattle.wire.specs.Writes.{Wrote};
+ghost use Rattle.format.specs.Layouts.{nullThunk, descriptor, nullDescriptor, compatStem, short, encode};
+ghost use Rattle.coff.specs.Import.{kindNumber, typeNumber};
+ghost use Rattle.coff.specs.Machines.{IsMachine};
+ghost use Rattle.members.specs.Members.{IsStem, weakOf};
+ghost use Rattle.walks.specs.Pen.{Room, Drew, Noted, fixedOf};
+
+// Where the next entry goes, and where the next member.
+pub struct Pen {
+    pub entry: usize,
+    pub at: usize,
+}
+
+// How many bytes an entry has.
+pub const ENTRY_SIZE: usize = 8;
+
+// Past a member of a size and its entry.
+fn moved(pen: Pen, size: usize) -> Pen
+    requires { ⌜ (pen .entry + 8 ≤ pen .at) × (pen .at + size < 4294967296) ⌝ }
+    ensures { λ r. ⌜ (r .entry ≡ pen .entry + 8) × (r .at ≡ pen .at + size) ⌝ }
+{
+    Pen {
+        entry: pen.entry + ENTRY_SIZE,
+        at: pen.at + size,
+    }
+}
+
+// Writes the entry of a member of a size at the pen's place, and moves past both.
+fn noted(out: &mut [u8], pen: Pen, size: usize) -> Pen
+    requires { ⌜ (pen .entry + 8 ≤ pen .at) × (pen .at + size < 4294967296) ⌝ }
+    ensures { λ r. ⌜ Noted (now (out .entry)) (pen .entry) (pen .at) size (now (out .exit)) (r .entry) (r .at) ⌝ }
+{
+    let at = pen.at;
+    let half = wire::put_u32(out, pen.entry, at as u32);
+    wire::put_u32(out, half, size as u32);
+    moved(pen, size)
+}
+
+// A weak external.
+pub fn draw_weak(out: &mut [u8], pen: Pen, sym: &[u8], weak: &[u8], imp: bool, machine: u16) -> Pen
+    requires { ⌜ Room (pen .entry) (pen .at) (weakOf machine imp (now sym) (now weak) ∷ []) ⌝ }
+    requires { ⌜ (length (now sym) ≤ 65536) × (length (now weak) ≤ 65536) ⌝ }
+    ensures { λ r. ⌜ Drew (now (out .entry)) (pen .entry) (pen .at) (weakOf machine imp (now (sym .entry)) (now (weak .entry)) ∷ []) (now (out .exit)) (r .entry) (r .at) ⌝ }
+{
+    let size = sizes::weak_size(sym, weak, imp);
+    if out.len() == 0 {
+        return moved(pen, size);
+    }
+    let at = pen.at;
+    members::create_weak_external(out, at, sym, weak, imp, machine);
+    noted(out, pen, size)
+}
+
+// A short import; its export string is given in two pieces.
+pub fn draw_short(
+    out: &mut [u8],
+    pen: Pen,
+    sym: &[u8],
+    dll: &[u8],
+    ordinal: u16,
+    import_type: ImportType,
+    name_type: ImportNameType,
+    head: &[u8],
+    tail: &[u8],
+    machine: u16,
+) -> Pen
+    requires { ⌜ Room (pen .entry) (pen .at) (short machine ordinal (kindNumber «import_type») (typeNumber «name_type») (now sym) (now dll) (now head ++ now tail) ∷ []) ⌝ }
+    requires { ⌜ ((length (now sym) ≤ 65536) × (length (now dll) ≤ 65536)) × ((length (now head) ≤ 65536) × (length (now tail) ≤ 65536)) ⌝ }
+    ensures { λ r. ⌜ Drew (now (out .entry)) (pen .entry) (pen .at) (short machine ordinal (kindNumber «import_type») (typeNumber «name_type») (now (sym .entry)) (now (dll .entry)) (now (head .entry) ++ now (tail .entry)) ∷ []) (now (out .exit)) (r .entry) (r .at) ⌝ }
+{
+    let size = sizes::short_size(sym, dll, name_type, head, tail);
+    if out.len() == 0 {
+        return moved(pen, size);
+    }
+    let at = pen.at;
+    members::create_short_import(
+        out,
+        at,
+        sym,
+        dll,
+        ordinal,
+        import_type,
+        name_type,
+        head,
+        tail,
+        machine,
+    );
+    noted(out, pen, size)
+}
+
+// The import descriptor.
+fn draw_descriptor(
+    out: &mut [u8],
+    pen: Pen,
+    machine: Machine,
+    dll: &[u8],
+    stem: &[u8],
+    compat: bool,
+) -> Pen
+    requires { ⌜ Room (pen .entry) (pen .at) (descriptor (machine .number) (now dll) compat ∷ []) ⌝ }
+    requires { ⌜ IsMachine machine ⌝ }
+    requires { ⌜ (length (now dll) ≤ 255) × IsStem (now stem) (now dll) ⌝ }
+    ensures { λ r. ⌜ Drew (now (out .entry)) (pen .entry) (pen .at) (descriptor (machine .number) (now (dll .entry)) compat ∷ []) (now (out .exit)) (r .entry) (r .at) ⌝ }
+{
+    let size = sizes::descriptor_size(dll, stem, compat);
+    if out.len() == 0 {
+        return moved(pen, size);
+    }
+    let at = pen.at;
+    members::create_import_descriptor(out, at, machine, dll, stem, compat);
+    noted(out, pen, size)
+}
+
+// The null import descriptor.
+fn draw_null_descriptor(
+    out: &mut [u8],
+    pen: Pen,
+    machine: Machine,
+    stem: &[u8],
+    compat: bool,
+) -> Pen
+    requires { ⌜ Room (pen .entry) (pen .at) (nullDescriptor (machine .number) (compatStem compat (now stem)) ∷ []) ⌝ }
+    requires { ⌜ IsMachine machine ⌝ }
+    requires { ⌜ length (now stem) ≤ 255 ⌝ }
+    ensures { λ r. ⌜ Drew (now (out .entry)) (pen .entry) (pen .at) (nullDescriptor (machine .number) (compatStem compat (now (stem .entry))) ∷ []) (now (out .exit)) (r .entry) (r .at) ⌝ }
+{
+    let size = sizes::null_descriptor_size(stem, compat);
+    if out.len() == 0 {
+        return moved(pen, size);
+    }
+    let at = pen.at;
+    members::create_null_import_descriptor(out, at, machine, stem, compat);
+    noted(out, pen, size)
+}
+
+// The null thunk.
+fn draw_thunk(out: &mut [u8], pen: Pen, machine: Machine, stem: &[u8]) -> Pen
+    requires { ⌜ Room (pen .entry) (pen .at) (nullThunk (machine .number) (now stem) ∷ []) ⌝ }
+    requires { ⌜ IsMachine machine ⌝ }
+    requires { ⌜ length (now stem) ≤ 255 ⌝ }
+    ensures { λ r. ⌜ Drew (now (out .entry)) (pen .entry) (pen .at) (nullThunk (machine .number) (now (stem .entry)) ∷ []) (now (out .exit)) (r .entry) (r .at) ⌝ }
+{
+    let size = sizes::thunk_size(machine, stem);
+    if out.len() == 0 {
+        return moved(pen, size);
+    }
+    let at = pen.at;
+    members::create_null_thunk(out, at, machine, stem);
+    noted(out, pen, size)
+}
+
+// The three fixed members.
+pub fn draw_fixed(
+    out: &mut [u8],
+    pen: Pen,
+    machine: Machine,
+    dll: &[u8],
+    stem: &[u8],
+    compat: bool,
+) -> Pen
+    requires { ⌜ Room (pen .entry) (pen .at) (fixedOf (machine .number) (now dll) compat) ⌝ }
+    requires { ⌜ IsMachine machine ⌝ }
+    requires { ⌜ (length (now dll) ≤ 255) × IsStem (now stem) (now dll) ⌝ }
+    ensures { λ r. ⌜ Drew (now (out .entry)) (pen .entry) (pen .at) (fixedOf (machine .number) (now (dll .entry)) compat) (now (out .exit)) (r .entry) (r .at) ⌝ }
+{
+    let a = draw_descriptor(out, pen, machine, dll, stem, compat);
+    let b = draw_null_descriptor(out, a, machine, stem, compat);
+    draw_thunk(out, b, machine, stem)
+}
