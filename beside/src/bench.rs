@@ -6,8 +6,9 @@ use std::time::Instant;
 use oracle::ask::{AMD64, Options};
 use oracle::list::{Record, encode_list};
 
+use crate::content::FIELDS;
 use crate::judge::Difference;
-use crate::{library, plain};
+use crate::{library, plain, reader, reads};
 
 const RUNS: usize = 21;
 const ALIASES: usize = 1000;
@@ -83,6 +84,55 @@ fn same_set(list: &[u8]) -> Result<(), Difference> {
     }
 }
 
+/// The median times in nanoseconds of reading each member once, by the library and by the plain reader.
+fn measure_reads(members: &[&[u8]]) -> [u128; 2] {
+    let mut fields = [0; FIELDS];
+    let mut times = [const { Vec::new() }; 2];
+    for _ in 0..RUNS {
+        times[0].push(timed(|| {
+            black_box(members).iter().all(|member| {
+                let read = library::read(member, &mut fields);
+                black_box(&mut fields);
+                read.is_ok()
+            })
+        }));
+        times[1].push(timed(|| {
+            black_box(members)
+                .iter()
+                .all(|member| black_box(reader::read(member)).is_some())
+        }));
+    }
+    times.map(median)
+}
+
+/// Reading, in times and in bytes a second.
+fn bench_reads() -> Result<(), Difference> {
+    println!(
+        "{:>8} {:>8} {:>12} {:>12} {:>12} {:>12} {:>14}",
+        "members", "bytes", "read, ns", "plain, ns", "read, MB/s", "plain, MB/s", "read / plain"
+    );
+    for aliases in [0, ALIASES] {
+        let mut set = vec![0; ROOM];
+        let total = plain::write(&measured_list(4096, aliases), OPTIONS, &mut set);
+        let total = total.expect("the measured list is taken");
+        let members = reads::members(&set[..total])?;
+        for member in &members {
+            reads::judge(member)?;
+        }
+        let bytes: usize = members.iter().map(|member| member.len()).sum();
+        let [read, plain] = measure_reads(&members);
+        let speed = |time: u128| bytes as f64 * 1000.0 / time as f64;
+        println!(
+            "{:>8} {bytes:>8} {read:>12} {plain:>12} {:>12.0} {:>12.0} {:>14.2}",
+            members.len(),
+            speed(read),
+            speed(plain),
+            read as f64 / plain as f64
+        );
+    }
+    Ok(())
+}
+
 pub fn bench() -> Result<String, Difference> {
     println!(
         "{:>8} {:>8} {:>12} {:>12} {:>12} {:>14}",
@@ -97,5 +147,6 @@ pub fn bench() -> Result<String, Difference> {
             write as f64 / plain as f64
         );
     }
+    bench_reads()?;
     Ok(format!("names of 40 bytes, median of {RUNS}, AMD64"))
 }

@@ -1,4 +1,4 @@
-//! Generated and damaged lists, beside the Rust.
+//! Generated and damaged lists, beside the Rust, and their members read back.
 
 use std::collections::BTreeMap;
 use std::fmt;
@@ -10,6 +10,7 @@ use oracle::{Case, Options, Record, generator, picked};
 
 use crate::judge::{Difference, Question, Wanted, wanted};
 use crate::order::word;
+use crate::reads;
 
 /// Numbers that a field is replaced by.
 const EDGES: [u32; 12] = [
@@ -59,15 +60,21 @@ impl fmt::Display for Tally {
     }
 }
 
-/// Hand-picked and generated lists: the sets byte for byte, and refusals 11 to 14.
+/// Hand-picked and generated lists: the sets byte for byte, refusals 11 to 14, and each member of a set read back.
 pub fn compare(count: u64, seed: u64) -> Result<String, Difference> {
     let mut tally = Tally::default();
+    let mut read = 0;
     let generated = generator::cases(seed).take(count as usize);
     for case in picked::cases().into_iter().chain(generated) {
         let wanted = wanted(&case, &case.answer());
         tally.judge(&Question::of(&case), &wanted)?;
+        if let Ok(set) = wanted {
+            read += reads::read_back(&case, &set)?;
+        }
     }
-    Ok(format!("lists, as the Rust: {tally}"))
+    Ok(format!(
+        "lists, as the Rust: {tally}; {read} members read back"
+    ))
 }
 
 /// Damaged lists: refusals 1 to 10 in the paper's order, and the Rust's answer to those that are lists still.

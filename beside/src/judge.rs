@@ -14,7 +14,7 @@ use crate::{library, plain};
 const GUARD: usize = 32;
 /// Room for the members of a list that is to be refused.
 const AMPLE: usize = 1 << 14;
-/// Bytes of a list that a difference shows.
+/// Bytes of a list or member that a difference shows.
 const SHOWN: usize = 1 << 14;
 /// Larger than the set of any generated list.
 const LARGEST: usize = 1 << 20;
@@ -41,6 +41,15 @@ impl Difference {
     pub fn show(&self) {
         println!("difference: {}", self.0);
     }
+}
+
+/// Bytes as a difference shows them.
+pub fn shown(bytes: &[u8]) -> String {
+    let mut text = format!("{} bytes ", bytes.len());
+    for byte in bytes.iter().take(SHOWN) {
+        let _ = write!(text, "{byte:02x}");
+    }
+    text
 }
 
 pub fn same<T: Debug + PartialEq>(what: &str, wanted: T, got: T) -> Result<(), String> {
@@ -86,12 +95,11 @@ impl Question {
     }
 
     fn differs(&self, what: &str) -> Difference {
-        let mut text = what.to_string();
-        let _ = write!(text, "\n{:04X?}, {} bytes ", self.options, self.list.len());
-        for byte in self.list.iter().take(SHOWN) {
-            let _ = write!(text, "{byte:02x}");
-        }
-        Difference(text)
+        Difference(format!(
+            "{what}\n{:04X?}, {}",
+            self.options,
+            shown(&self.list)
+        ))
     }
 
     /// Compares the check and, in several rooms, each writer.

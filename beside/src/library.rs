@@ -16,6 +16,13 @@ mod raw {
             out: *mut u8,
             out_len: usize,
         ) -> u64;
+
+        pub fn crepedum_read(
+            member: *const u8,
+            len: usize,
+            fields: *mut u32,
+            fields_len: usize,
+        ) -> u64;
     }
 }
 
@@ -52,4 +59,18 @@ pub fn write(list: &[u8], options: Options, out: &mut [u8]) -> Result<usize, Ref
         )
     };
     refusal(word).map_or(Ok(word as usize), Err)
+}
+
+/// Reads a member and returns its layout's number, or the refusal's number and place.
+pub fn read(member: &[u8], fields: &mut [u32]) -> Result<u32, Refusal> {
+    // SAFETY: both pairs are those of slices, the second of one that nobody else holds.
+    let word = unsafe {
+        raw::crepedum_read(
+            member.as_ptr(),
+            member.len(),
+            fields.as_mut_ptr(),
+            fields.len(),
+        )
+    };
+    refusal(word).map_or(Ok(word as u32), Err)
 }

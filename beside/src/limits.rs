@@ -5,6 +5,7 @@ use oracle::list::{DATA, HEADER_SIZE};
 use oracle::{Case, Options, Packing, Record};
 
 use crate::judge::{Difference, Question, Wanted, wanted};
+use crate::member_limits;
 
 const STRING: usize = 4095;
 const DLL: usize = 255;
@@ -67,8 +68,9 @@ pub fn limits() -> Result<String, Difference> {
     }
     rooms()?;
     largest()?;
+    let members = member_limits::limits()?;
     Ok(format!(
-        "limits: {} lists answered as the paper says",
+        "limits: {} lists and {members} members answered as the paper says",
         rows.len() + 2
     ))
 }

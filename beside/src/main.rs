@@ -1,23 +1,29 @@
 //! Runs the library beside the Rust, and measures it.
 
 mod bench;
+mod changed;
 mod compare;
+mod content;
 mod differences;
 mod judge;
 mod layouts;
 mod library;
 mod limits;
+mod member_limits;
 mod order;
 mod pe;
 mod plain;
+mod reader;
+mod reads;
 
 use std::process::ExitCode;
 
 const USAGE: &str = "\
 usage: beside COMMAND
 
-  compare COUNT SEED   generated lists: the sets and refusals are the Rust's
+  compare COUNT SEED   generated lists: the sets and refusals are the Rust's, and members are read back
   damaged COUNT SEED   damaged lists: refusals come in the paper's order
+  changed COUNT SEED   changed members: read where they are members still, else refused
   limits               every limit, and one step beyond it
   layouts              the members are laid out as the PE Format document says
   differences          where the library does otherwise than the Rust, on purpose
@@ -33,6 +39,7 @@ fn main() -> ExitCode {
     let done = match (words.first().map(String::as_str), numbers) {
         (Some("compare"), Some((count, seed))) => compare::compare(count, seed),
         (Some("damaged"), Some((count, seed))) => compare::damaged(count, seed),
+        (Some("changed"), Some((count, seed))) => changed::changed(count, seed),
         (Some("limits"), None) => limits::limits(),
         (Some("layouts"), None) => layouts::layouts(),
         (Some("differences"), None) => differences::differences(),

@@ -55,7 +55,7 @@ pub fn write(list: &[u8], options: Options, out: &mut [u8]) -> Result<usize, Ref
     let first = Part::of(first, names, machine, options.mingw).map_err(behind(0))?;
     let native = Part::of(native, names, native_machine, options.mingw).map_err(behind(count))?;
     let dll = string(list, 20, names).expect("a checked list has a DLL name");
-    let factory = Factory::new(dll, native_machine, options.compat);
+    let factory = Factory::new(dll, stem(dll), native_machine, options.compat);
     let set = Set {
         factory: &factory,
         first: first.members(),
@@ -368,7 +368,7 @@ impl<'a> Part<'a> {
 }
 
 /// A member behind the fixed ones.
-enum Member<'a> {
+pub enum Member<'a> {
     Short {
         machine: u32,
         symbol: &'a [u8],
@@ -386,7 +386,7 @@ enum Member<'a> {
 }
 
 impl Member<'_> {
-    fn len(&self, dll: &[u8]) -> usize {
+    pub fn len(&self, dll: &[u8]) -> usize {
         match self {
             Member::Short { symbol, export, .. } => {
                 let export = export.map_or(0, |export| export.len() + 1);
@@ -406,7 +406,7 @@ impl Member<'_> {
         }
     }
 
-    fn write(&self, pen: &mut Pen<'_>, dll: &[u8]) {
+    pub fn write(&self, pen: &mut Pen<'_>, dll: &[u8]) {
         match *self {
             Member::Short {
                 machine,
@@ -448,8 +448,16 @@ fn write_weak(pen: &mut Pen<'_>, machine: u32, target: [&[u8]; 2], alias: [&[u8]
     pen.string_table(&[&target, &alias]);
 }
 
+/// The bytes before the last dot; all of them where there is none, or only a leading one.
+pub fn stem(dll: &[u8]) -> &[u8] {
+    match dll.iter().rposition(|&byte| byte == b'.') {
+        Some(dot @ 1..) => &dll[..dot],
+        _ => dll,
+    }
+}
+
 /// Makes the fixed members.
-struct Factory<'a> {
+pub struct Factory<'a> {
     dll: &'a [u8],
     machine: u32,
     descriptor_name: Vec<u8>,
@@ -458,11 +466,7 @@ struct Factory<'a> {
 }
 
 impl<'a> Factory<'a> {
-    fn new(dll: &'a [u8], machine: u32, compat: bool) -> Self {
-        let stem = match dll.iter().rposition(|&byte| byte == b'.') {
-            Some(dot @ 1..) => &dll[..dot],
-            _ => dll,
-        };
+    pub fn new(dll: &'a [u8], stem: &[u8], machine: u32, compat: bool) -> Self {
         let null_name = if compat {
             [b"__NULL_IMPORT_DESCRIPTOR_", stem].concat()
         } else {
@@ -501,7 +505,7 @@ impl<'a> Factory<'a> {
         }
     }
 
-    fn lens(&self) -> [usize; FIXED_MEMBERS] {
+    pub fn lens(&self) -> [usize; FIXED_MEMBERS] {
         let [descriptor, null, thunk] =
             [&self.descriptor_name, &self.null_name, &self.thunk_name].map(Vec::len);
         let data = DESCRIPTOR + 3 * RELOCATION + self.dll.len() + 1;
@@ -518,7 +522,7 @@ impl<'a> Factory<'a> {
         self.null_thunk(pen);
     }
 
-    fn import_descriptor(&self, pen: &mut Pen<'_>) {
+    pub fn import_descriptor(&self, pen: &mut Pen<'_>) {
         let data_at = FILE_HEADER + 2 * SECTION;
         let relocations_at = data_at + DESCRIPTOR;
         let dll_at = relocations_at + 3 * RELOCATION;
@@ -551,7 +555,7 @@ impl<'a> Factory<'a> {
         ]);
     }
 
-    fn null_import_descriptor(&self, pen: &mut Pen<'_>) {
+    pub fn null_import_descriptor(&self, pen: &mut Pen<'_>) {
         let data_at = FILE_HEADER + SECTION;
         let symbols_at = data_at + DESCRIPTOR;
         pen.file_header(self.machine, 1, symbols_at, 1, self.characteristics());
@@ -561,7 +565,7 @@ impl<'a> Factory<'a> {
         pen.string_table(&[&[&self.null_name]]);
     }
 
-    fn null_thunk(&self, pen: &mut Pen<'_>) {
+    pub fn null_thunk(&self, pen: &mut Pen<'_>) {
         let (slot, characteristics) = self.slot();
         let data_at = FILE_HEADER + 2 * SECTION;
         let symbols_at = data_at + 2 * slot;
@@ -610,7 +614,7 @@ impl Set<'_> {
     }
 
     fn write(&self, out: &mut [u8]) {
-        let mut pen = Pen { out, at: 0 };
+        let mut pen = Pen::new(out);
         let mut at = self.first_at();
         pen.longs(&[self.count(), self.first.len(), self.native.len(), at]);
         for length in self.lens() {
@@ -625,12 +629,16 @@ impl Set<'_> {
 }
 
 /// Writes one thing behind the other.
-struct Pen<'a> {
+pub struct Pen<'a> {
     out: &'a mut [u8],
     at: usize,
 }
 
-impl Pen<'_> {
+impl<'a> Pen<'a> {
+    pub fn new(out: &'a mut [u8]) -> Self {
+        Self { out, at: 0 }
+    }
+
     fn put(&mut self, bytes: &[u8]) {
         self.out[self.at..self.at + bytes.len()].copy_from_slice(bytes);
         self.at += bytes.len();

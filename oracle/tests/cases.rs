@@ -7,14 +7,17 @@ use oracle::list::{decode_list, within_limits};
 use oracle::{Answer, fixed, generator};
 
 const LISTS: usize = 30_000;
+/// The program that replays the fixed list has a buffer of 400,000 bytes.
+const LARGEST: usize = 390_000;
 
 #[test]
 fn the_fixed_list_is_what_answers_gives() {
-    let committed = include_bytes!("../answers.bin");
+    let committed = include_bytes!("../../crates/write_run/stdin");
     assert!(
         committed[..] == fixed::file()[..],
-        "answers.bin is not what `oracle answers` writes"
+        "crates/write_run/stdin is not what `oracle answers` writes"
     );
+    assert!(committed.len() <= LARGEST);
 }
 
 #[test]

@@ -93,6 +93,12 @@ module _ (first native : ℕ) (mingw compat : Bool) (dll b : Bytes) {entry at : 
             nativeCount = omega (arith, drew-as native-is r .entries);
           }
 
+-- how many members each list has, by the places of the entries
+pub counted-by : {first native : ℕ} {mingw compat : Bool} {dll b l l′ : Bytes} {entry at entry′ at′ e₁ e₂ e₃ f₁ f₂ f₃ f₄ : ℕ} → f₁ ≡ e₂ → f₂ ≡ e₁ → f₃ ≡ e₃ → f₄ ≡ e₂
+    → DrewBy first native mingw compat dll b l entry at l′ entry′ at′ ((e₂ - e₁) / 8) ((e₃ - e₂) / 8)
+    → DrewBy first native mingw compat dll b l entry at l′ entry′ at′ ((f₁ - f₂) / 8) ((f₃ - f₄) / 8)
+counted-by p q r s d = rw (p, q, r, s) d
+
 -- ---- the same under the options of a list
 
 module _ (o : Options) (b : Bytes) where
@@ -110,6 +116,15 @@ module _ (o : Options) (b : Bytes) where
     all-drew d =
         let d′ = rw (e, f, g) at d in
         record { drew = drew-as all-is (d′ .drew); firstCount = d′ .firstCount; nativeCount = d′ .nativeCount }
+
+-- ---- the same at the places of a pen
+
+module _ {entry at entry₀ at₀ : ℕ} (e : entry ≡ entry₀) (f : at ≡ at₀) where
+  pub room-at : {ms : List Member} → Room entry₀ at₀ ms → Room entry at ms
+  room-at r = rw (e, f) r
+
+  pub all-at : {o : Options} {b l l′ : Bytes} {entry′ at′ firsts natives : ℕ} → DrewAll o b l entry at l′ entry′ at′ firsts natives → DrewAll o b l entry₀ at₀ l′ entry′ at′ firsts natives
+  all-at d = rw (e, f) at d
 
 -- ---- nothing is drawn into nothing
 

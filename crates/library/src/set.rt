@@ -4,8 +4,10 @@ use coff::machines::Machine;
 use format::Written;
 use lists::record;
 use walks::pen::ENTRY_SIZE;
-use walks::pen::Pen;
+use walks::pen::at_of;
 use walks::pen::draw_fixed;
+use walks::pen::entry_of;
+use walks::pen::pen_at;
 use walks::walk::draw_list;
 ghost use mathlib.Core.Path.{_≡_};
 ghost use mathlib.Core.List.{[]};
@@ -17,7 +19,7 @@ ghost use Rattle.format.specs.Refusals.{checkList, checkExports};
 ghost use Rattle.format.specs.Answers.{written, outputAfter};
 ghost use Rattle.format.specs.declared.Checked.the-variants.{Fine};
 ghost use Rattle.coff.specs.Machines.{IsMachine};
-ghost use Rattle.walks.specs.Pen.{Room};
+ghost use Rattle.walks.specs.Pen.{entryOf, atOf, Room};
 ghost use Rattle.library.specs.Sets.{membersBy, DrewBy, DrewAll, Measured, headerBytes};
 
 // How many bytes the header of a set has.
@@ -31,7 +33,7 @@ const FIXED: usize = 3;
 
 // Where the pen stands after all members, and how many each list has.
 pub struct Drawn {
-    pub pen: Pen,
+    pub pen: u64,
     pub firsts: usize,
     pub natives: usize,
 }
@@ -39,7 +41,7 @@ pub struct Drawn {
 // All members, by the machines of the two lists.
 fn draw_members(
     out: &mut [u8],
-    pen: Pen,
+    pen: u64,
     b: &[u8],
     dll: &[u8],
     first: u16,
@@ -47,11 +49,11 @@ fn draw_members(
     mingw: bool,
     compat: bool,
 ) -> Drawn
-    requires { ⌜ Room (pen .entry) (pen .at) (membersBy first (native .number) mingw compat (now dll) (now b)) ⌝ }
+    requires { ⌜ Room (entryOf pen) (atOf pen) (membersBy first (native .number) mingw compat (now dll) (now b)) ⌝ }
     requires { ⌜ checkList (now b) ≡ Fine ⌝ }
     requires { ⌜ IsMachine native ⌝ }
     requires { ⌜ length (now dll) ≤ 255 ⌝ }
-    ensures { λ r. ⌜ DrewBy first (native .number) mingw compat (now (dll .entry)) (now (b .entry)) (now (out .entry)) (pen .entry) (pen .at) (now (out .exit)) (r .pen .entry) (r .pen .at) (r .firsts) (r .natives) ⌝ }
+    ensures { λ r. ⌜ DrewBy first (native .number) mingw compat (now (dll .entry)) (now (b .entry)) (now (out .entry)) (entryOf pen) (atOf pen) (now (out .exit)) (entryOf (r .pen)) (atOf (r .pen)) (r .firsts) (r .natives) ⌝ }
 {
     let stem = wire::part(dll, 0, names::dll::stem(dll));
     let count = wire::u32_at(b, lists::FIRST_COUNT);
@@ -61,24 +63,24 @@ fn draw_members(
     let natives = draw_list(out, firsts, b, dll, native.number, mingw, count, both);
     Drawn {
         pen: natives,
-        firsts: (firsts.entry - fixed.entry) / ENTRY_SIZE,
-        natives: (natives.entry - firsts.entry) / ENTRY_SIZE,
+        firsts: (entry_of(firsts) - entry_of(fixed)) / ENTRY_SIZE,
+        natives: (entry_of(natives) - entry_of(firsts)) / ENTRY_SIZE,
     }
 }
 
 // All members of a list.
 fn draw_all(
     out: &mut [u8],
-    pen: Pen,
+    pen: u64,
     b: &[u8],
     machine: Machine,
     mingw: bool,
     compat: bool,
 ) -> Drawn
-    requires { ⌜ Room (pen .entry) (pen .at) (allMembers (record { machine = machine .number; mingw = mingw; compat = compat }) (now b)) ⌝ }
+    requires { ⌜ Room (entryOf pen) (atOf pen) (allMembers (record { machine = machine .number; mingw = mingw; compat = compat }) (now b)) ⌝ }
     requires { ⌜ checkList (now b) ≡ Fine ⌝ }
     requires { ⌜ IsMachine machine ⌝ }
-    ensures { λ r. ⌜ DrewAll (record { machine = machine .number; mingw = mingw; compat = compat }) (now (b .entry)) (now (out .entry)) (pen .entry) (pen .at) (now (out .exit)) (r .pen .entry) (r .pen .at) (r .firsts) (r .natives) ⌝ }
+    ensures { λ r. ⌜ DrewAll (record { machine = machine .number; mingw = mingw; compat = compat }) (now (b .entry)) (now (out .entry)) (entryOf pen) (atOf pen) (now (out .exit)) (entryOf (r .pen)) (atOf (r .pen)) (r .firsts) (r .natives) ⌝ }
 {
     let first = machines::first_machine(machine);
     let native = machines::native_machine(machine);
@@ -99,12 +101,9 @@ fn measure(none: &mut [u8], b: &[u8], machine: Machine, mingw: bool, compat: boo
     requires { ⌜ length (now none) ≡ 0 ⌝ }
     requires { ⌜ checkExports (record { machine = machine .number; mingw = mingw; compat = compat }) (now b) ≡ Fine ⌝ }
     requires { ⌜ IsMachine machine ⌝ }
-    ensures { λ r. ⌜ (now (none .exit) ≡ []) × Measured (record { machine = machine .number; mingw = mingw; compat = compat }) (now (b .entry)) (r .pen .entry) (r .pen .at) (r .firsts) (r .natives) ⌝ }
+    ensures { λ r. ⌜ (now (none .exit) ≡ []) × Measured (record { machine = machine .number; mingw = mingw; compat = compat }) (now (b .entry)) (entryOf (r .pen)) (atOf (r .pen)) (r .firsts) (r .natives) ⌝ }
 {
-    let pen = Pen {
-        entry: HEADER_SIZE,
-        at: FARTHEST,
-    };
+    let pen = pen_at(HEADER_SIZE, FARTHEST);
     draw_all(none, pen, b, machine, mingw, compat)
 }
 
@@ -133,18 +132,15 @@ pub fn write_accepted(
 {
     let room = out.len();
     let size = measure(&mut out[..0], b, machine, mingw, compat);
-    let first_at = size.pen.entry;
-    let total = first_at + (size.pen.at - FARTHEST);
+    let first_at = entry_of(size.pen);
+    let total = first_at + (at_of(size.pen) - FARTHEST);
     if room < total {
         return Written::Refused {
             number: 15,
             place: 0,
         };
     }
-    let pen = Pen {
-        entry: HEADER_SIZE,
-        at: first_at,
-    };
+    let pen = pen_at(HEADER_SIZE, first_at);
     draw_all(out, pen, b, machine, mingw, compat);
     put_header(out, size.firsts, size.natives, first_at);
     Written::Total(total)

@@ -8,7 +8,7 @@ use native.Mathlib.Omega.{arith}
 use lib.ListN.{length, take, drop, length-append, length-map}
 use Rattle.wire.specs.Bytes.{Bytes, le32, join}
 use Rattle.wire.specs.Writes.{over, Wrote}
-use Rattle.wire.proofs.Writes.{over-nil, over-over, over-comm, over-out, length-over}
+use Rattle.wire.proofs.Writes.{over-nil, over-over, over-comm, over-out, length-over, _⨾_}
 use Rattle.format.specs.Names.{stem}
 use Rattle.format.specs.Layouts.{Member, descriptor, nullDescriptor, nullThunk, compatStem, encode}
 use Rattle.format.specs.Library.{setHeaderSize, entrySize, firstMemberAt, directory, setBytes}
@@ -37,16 +37,21 @@ drew-none l entry at =
     }
 
 -- a member written, and then its entry
-pub drew-noted : {l l₁ l₂ : Bytes} {entry at next size entry′ at′ : ℕ} (m : Member) → size ≡ length (encode m) → Wrote l at (encode m) l₁ next
+pub drew-noted : {l l₁ l₂ : Bytes} {entry at place next size entry′ at′ : ℕ} (m : Member) → size ≡ length (encode m) → place ≡ at → Wrote l place (encode m) l₁ next
     → Noted l₁ entry at size l₂ entry′ at′ → Drew l entry at (m ∷ []) l₂ entry′ at′
 unfolding directory join
-drew-noted {l} {l₁} {l₂} {entry} {at} {next} {size} {entry′} {at′} m e w n =
+drew-noted {l} {l₁} {l₂} {entry} {at} {place} {next} {size} {entry′} {at′} m e p w n =
     record {
       bytes =
-          n .wrote .bytes ∙ ap₂ (λ (k : ℕ) (t : Bytes). over entry (le32 at ++ le32 k) t) e (w .bytes ∙ ap (λ (t : Bytes). over at t l) (sym (append-nil (encode m))));
+          n .wrote .bytes ∙ ap₂ (λ (k : ℕ) (t : Bytes). over entry (le32 at ++ le32 k) t) e (w .bytes ∙ ap₂ (λ (k : ℕ) (t : Bytes). over k t l) p (sym (append-nil (encode m))));
       entries = omega (arith, n .entries);
       next = n .ends ∙ ap (λ (k : ℕ). at + k) (e ∙ ap length (sym (append-nil (encode m))));
     }
+
+-- an entry written in two halves
+pub noted-by : {l l₁ l₂ : Bytes} {entry at size entry₀ at₀ r end entry′ at′ : ℕ} → entry₀ ≡ entry → at₀ ≡ at → Wrote l entry₀ (le32 at₀) l₁ r → Wrote l₁ r (le32 size) l₂ end
+    → entry′ ≡ entry + entrySize → at′ ≡ at + size → Noted l entry at size l₂ entry′ at′
+noted-by {end = end} e f w v g h = record { end = end; wrote = rw (← e, ← f) (w ⨾ v); entries = g; ends = h }
 
 -- nothing is laid over an empty output
 pub drew-empty : {l : Bytes} {entry at size entry′ at′ : ℕ} (m : Member) → size ≡ length (encode m) → length l ≡ 0 → entry′ ≡ entry + entrySize → at′ ≡ at + size

@@ -1,5 +1,5 @@
 -- Members drawn into an output with two places: where the next directory entry goes, and where the next member.
-use Prim.Native.Nat.{ℕ, _+_, _*_, _≤_, _<_}
+use Prim.Native.Nat.{ℕ, _+_, _*_, _/_, _%_, _≤_, _<_}
 use mathlib.Core.Path.{_≡_}
 use mathlib.Core.Bool.{Bool}
 use mathlib.Core.List.{List, [], _∷_, map, _++_}
@@ -9,6 +9,13 @@ use Rattle.wire.specs.Writes.{over, Wrote}
 use Rattle.format.specs.Names.{stem}
 use Rattle.format.specs.Layouts.{Member, descriptor, nullDescriptor, nullThunk, compatStem, encode}
 use Rattle.format.specs.Library.{entrySize, directory}
+
+-- a pen is one number: where the next entry goes, and, in its upper half, where the next member goes
+abbrev pub entryOf : ℕ → ℕ
+entryOf pen = pen % 4294967296
+
+abbrev pub atOf : ℕ → ℕ
+atOf pen = pen / 4294967296
 
 -- the entries of members and the members themselves were laid over l, which left l′; the next places are after them, also where they are past
 -- the end of l

@@ -13,50 +13,66 @@ ghost use Rattle.format.specs.Layouts.{nullThunk, descriptor, nullDescriptor, c
 ghost use Rattle.coff.specs.Import.{kindNumber, typeNumber};
 ghost use Rattle.coff.specs.Machines.{IsMachine};
 ghost use Rattle.members.specs.Members.{IsStem, weakOf};
-ghost use Rattle.walks.specs.Pen.{Room, Drew, Noted, fixedOf};
+ghost use Rattle.walks.specs.Pen.{entryOf, atOf, Room, Drew, Noted, fixedOf};
 
-// Where the next entry goes, and where the next member.
-pub struct Pen {
-    pub entry: usize,
-    pub at: usize,
-}
+// A pen is one number, which stays in a register: where the next entry goes, and, in its upper half, where the next member goes.
+const UPPER: u64 = 4294967296;
 
 // How many bytes an entry has.
 pub const ENTRY_SIZE: usize = 8;
 
-// Past a member of a size and its entry.
-fn moved(pen: Pen, size: usize) -> Pen
-    requires { ⌜ (pen .entry + 8 ≤ pen .at) × (pen .at + size < 4294967296) ⌝ }
-    ensures { λ r. ⌜ (r .entry ≡ pen .entry + 8) × (r .at ≡ pen .at + size) ⌝ }
+// The pen at two places.
+pub fn pen_at(entry: usize, at: usize) -> u64
+    requires { ⌜ (entry < 4294967296) × (at < 4294967296) ⌝ }
+    ensures { λ r. ⌜ (entryOf r ≡ entry) × (atOf r ≡ at) ⌝ }
 {
-    Pen {
-        entry: pen.entry + ENTRY_SIZE,
-        at: pen.at + size,
-    }
+    (at as u64) * UPPER + (entry as u64)
+}
+
+// Where the next entry goes.
+pub fn entry_of(pen: u64) -> usize
+    ensures { λ r. ⌜ r ≡ entryOf pen ⌝ }
+{
+    (pen % UPPER) as usize
+}
+
+// Where the next member goes.
+pub fn at_of(pen: u64) -> usize
+    ensures { λ r. ⌜ r ≡ atOf pen ⌝ }
+{
+    (pen / UPPER) as usize
+}
+
+// Past a member of a size and its entry.
+fn moved(pen: u64, size: usize) -> u64
+    requires { ⌜ (entryOf pen + 8 ≤ atOf pen) × (atOf pen + size < 4294967296) ⌝ }
+    ensures { λ r. ⌜ (entryOf r ≡ entryOf pen + 8) × (atOf r ≡ atOf pen + size) ⌝ }
+{
+    pen + (size as u64) * UPPER + (ENTRY_SIZE as u64)
 }
 
 // Writes the entry of a member of a size at the pen's place, and moves past both.
-fn noted(out: &mut [u8], pen: Pen, size: usize) -> Pen
-    requires { ⌜ (pen .entry + 8 ≤ pen .at) × (pen .at + size < 4294967296) ⌝ }
-    ensures { λ r. ⌜ Noted (now (out .entry)) (pen .entry) (pen .at) size (now (out .exit)) (r .entry) (r .at) ⌝ }
+fn noted(out: &mut [u8], pen: u64, size: usize) -> u64
+    requires { ⌜ (entryOf pen + 8 ≤ atOf pen) × (atOf pen + size < 4294967296) ⌝ }
+    ensures { λ r. ⌜ Noted (now (out .entry)) (entryOf pen) (atOf pen) size (now (out .exit)) (entryOf r) (atOf r) ⌝ }
 {
-    let at = pen.at;
-    let half = wire::put_u32(out, pen.entry, at as u32);
+    let at = at_of(pen);
+    let half = wire::put_u32(out, entry_of(pen), at as u32);
     wire::put_u32(out, half, size as u32);
     moved(pen, size)
 }
 
 // A weak external.
-pub fn draw_weak(out: &mut [u8], pen: Pen, sym: &[u8], weak: &[u8], imp: bool, machine: u16) -> Pen
-    requires { ⌜ Room (pen .entry) (pen .at) (weakOf machine imp (now sym) (now weak) ∷ []) ⌝ }
+pub fn draw_weak(out: &mut [u8], pen: u64, sym: &[u8], weak: &[u8], imp: bool, machine: u16) -> u64
+    requires { ⌜ Room (entryOf pen) (atOf pen) (weakOf machine imp (now sym) (now weak) ∷ []) ⌝ }
     requires { ⌜ (length (now sym) ≤ 65536) × (length (now weak) ≤ 65536) ⌝ }
-    ensures { λ r. ⌜ Drew (now (out .entry)) (pen .entry) (pen .at) (weakOf machine imp (now (sym .entry)) (now (weak .entry)) ∷ []) (now (out .exit)) (r .entry) (r .at) ⌝ }
+    ensures { λ r. ⌜ Drew (now (out .entry)) (entryOf pen) (atOf pen) (weakOf machine imp (now (sym .entry)) (now (weak .entry)) ∷ []) (now (out .exit)) (entryOf r) (atOf r) ⌝ }
 {
     let size = sizes::weak_size(sym, weak, imp);
     if out.len() == 0 {
         return moved(pen, size);
     }
-    let at = pen.at;
+    let at = at_of(pen);
     members::create_weak_external(out, at, sym, weak, imp, machine);
     noted(out, pen, size)
 }
@@ -64,7 +80,7 @@ pub fn draw_weak(out: &mut [u8], pen: Pen, sym: &[u8], weak: &[u8], imp: bool, m
 // A short import; its export string is given in two pieces.
 pub fn draw_short(
     out: &mut [u8],
-    pen: Pen,
+    pen: u64,
     sym: &[u8],
     dll: &[u8],
     ordinal: u16,
@@ -73,16 +89,16 @@ pub fn draw_short(
     head: &[u8],
     tail: &[u8],
     machine: u16,
-) -> Pen
-    requires { ⌜ Room (pen .entry) (pen .at) (short machine ordinal (kindNumber «import_type») (typeNumber «name_type») (now sym) (now dll) (now head ++ now tail) ∷ []) ⌝ }
+) -> u64
+    requires { ⌜ Room (entryOf pen) (atOf pen) (short machine ordinal (kindNumber «import_type») (typeNumber «name_type») (now sym) (now dll) (now head ++ now tail) ∷ []) ⌝ }
     requires { ⌜ ((length (now sym) ≤ 65536) × (length (now dll) ≤ 65536)) × ((length (now head) ≤ 65536) × (length (now tail) ≤ 65536)) ⌝ }
-    ensures { λ r. ⌜ Drew (now (out .entry)) (pen .entry) (pen .at) (short machine ordinal (kindNumber «import_type») (typeNumber «name_type») (now (sym .entry)) (now (dll .entry)) (now (head .entry) ++ now (tail .entry)) ∷ []) (now (out .exit)) (r .entry) (r .at) ⌝ }
+    ensures { λ r. ⌜ Drew (now (out .entry)) (entryOf pen) (atOf pen) (short machine ordinal (kindNumber «import_type») (typeNumber «name_type») (now (sym .entry)) (now (dll .entry)) (now (head .entry) ++ now (tail .entry)) ∷ []) (now (out .exit)) (entryOf r) (atOf r) ⌝ }
 {
     let size = sizes::short_size(sym, dll, name_type, head, tail);
     if out.len() == 0 {
         return moved(pen, size);
     }
-    let at = pen.at;
+    let at = at_of(pen);
     members::create_short_import(
         out,
         at,
@@ -101,22 +117,22 @@ pub fn draw_short(
 // The import descriptor.
 fn draw_descriptor(
     out: &mut [u8],
-    pen: Pen,
+    pen: u64,
     machine: Machine,
     dll: &[u8],
     stem: &[u8],
     compat: bool,
-) -> Pen
-    requires { ⌜ Room (pen .entry) (pen .at) (descriptor (machine .number) (now dll) compat ∷ []) ⌝ }
+) -> u64
+    requires { ⌜ Room (entryOf pen) (atOf pen) (descriptor (machine .number) (now dll) compat ∷ []) ⌝ }
     requires { ⌜ IsMachine machine ⌝ }
     requires { ⌜ (length (now dll) ≤ 255) × IsStem (now stem) (now dll) ⌝ }
-    ensures { λ r. ⌜ Drew (now (out .entry)) (pen .entry) (pen .at) (descriptor (machine .number) (now (dll .entry)) compat ∷ []) (now (out .exit)) (r .entry) (r .at) ⌝ }
+    ensures { λ r. ⌜ Drew (now (out .entry)) (entryOf pen) (atOf pen) (descriptor (machine .number) (now (dll .entry)) compat ∷ []) (now (out .exit)) (entryOf r) (atOf r) ⌝ }
 {
     let size = sizes::descriptor_size(dll, stem, compat);
     if out.len() == 0 {
         return moved(pen, size);
     }
-    let at = pen.at;
+    let at = at_of(pen);
     members::create_import_descriptor(out, at, machine, dll, stem, compat);
     noted(out, pen, size)
 }
@@ -124,37 +140,37 @@ fn draw_descriptor(
 // The null import descriptor.
 fn draw_null_descriptor(
     out: &mut [u8],
-    pen: Pen,
+    pen: u64,
     machine: Machine,
     stem: &[u8],
     compat: bool,
-) -> Pen
-    requires { ⌜ Room (pen .entry) (pen .at) (nullDescriptor (machine .number) (compatStem compat (now stem)) ∷ []) ⌝ }
+) -> u64
+    requires { ⌜ Room (entryOf pen) (atOf pen) (nullDescriptor (machine .number) (compatStem compat (now stem)) ∷ []) ⌝ }
     requires { ⌜ IsMachine machine ⌝ }
     requires { ⌜ length (now stem) ≤ 255 ⌝ }
-    ensures { λ r. ⌜ Drew (now (out .entry)) (pen .entry) (pen .at) (nullDescriptor (machine .number) (compatStem compat (now (stem .entry))) ∷ []) (now (out .exit)) (r .entry) (r .at) ⌝ }
+    ensures { λ r. ⌜ Drew (now (out .entry)) (entryOf pen) (atOf pen) (nullDescriptor (machine .number) (compatStem compat (now (stem .entry))) ∷ []) (now (out .exit)) (entryOf r) (atOf r) ⌝ }
 {
     let size = sizes::null_descriptor_size(stem, compat);
     if out.len() == 0 {
         return moved(pen, size);
     }
-    let at = pen.at;
+    let at = at_of(pen);
     members::create_null_import_descriptor(out, at, machine, stem, compat);
     noted(out, pen, size)
 }
 
 // The null thunk.
-fn draw_thunk(out: &mut [u8], pen: Pen, machine: Machine, stem: &[u8]) -> Pen
-    requires { ⌜ Room (pen .entry) (pen .at) (nullThunk (machine .number) (now stem) ∷ []) ⌝ }
+fn draw_thunk(out: &mut [u8], pen: u64, machine: Machine, stem: &[u8]) -> u64
+    requires { ⌜ Room (entryOf pen) (atOf pen) (nullThunk (machine .number) (now stem) ∷ []) ⌝ }
     requires { ⌜ IsMachine machine ⌝ }
     requires { ⌜ length (now stem) ≤ 255 ⌝ }
-    ensures { λ r. ⌜ Drew (now (out .entry)) (pen .entry) (pen .at) (nullThunk (machine .number) (now (stem .entry)) ∷ []) (now (out .exit)) (r .entry) (r .at) ⌝ }
+    ensures { λ r. ⌜ Drew (now (out .entry)) (entryOf pen) (atOf pen) (nullThunk (machine .number) (now (stem .entry)) ∷ []) (now (out .exit)) (entryOf r) (atOf r) ⌝ }
 {
     let size = sizes::thunk_size(machine, stem);
     if out.len() == 0 {
         return moved(pen, size);
     }
-    let at = pen.at;
+    let at = at_of(pen);
     members::create_null_thunk(out, at, machine, stem);
     noted(out, pen, size)
 }
@@ -162,16 +178,16 @@ fn draw_thunk(out: &mut [u8], pen: Pen, machine: Machine, stem: &[u8]) -> Pen
 // The three fixed members.
 pub fn draw_fixed(
     out: &mut [u8],
-    pen: Pen,
+    pen: u64,
     machine: Machine,
     dll: &[u8],
     stem: &[u8],
     compat: bool,
-) -> Pen
-    requires { ⌜ Room (pen .entry) (pen .at) (fixedOf (machine .number) (now dll) compat) ⌝ }
+) -> u64
+    requires { ⌜ Room (entryOf pen) (atOf pen) (fixedOf (machine .number) (now dll) compat) ⌝ }
     requires { ⌜ IsMachine machine ⌝ }
     requires { ⌜ (length (now dll) ≤ 255) × IsStem (now stem) (now dll) ⌝ }
-    ensures { λ r. ⌜ Drew (now (out .entry)) (pen .entry) (pen .at) (fixedOf (machine .number) (now (dll .entry)) compat) (now (out .exit)) (r .entry) (r .at) ⌝ }
+    ensures { λ r. ⌜ Drew (now (out .entry)) (entryOf pen) (atOf pen) (fixedOf (machine .number) (now (dll .entry)) compat) (now (out .exit)) (entryOf r) (atOf r) ⌝ }
 {
     let a = draw_descriptor(out, pen, machine, dll, stem, compat);
     let b = draw_null_descriptor(out, a, machine, stem, compat);

@@ -1,5 +1,4 @@
 // The walk over one list: each record's short import, and after all of them what was deferred.
-use crate::pen::Pen;
 use crate::pen::draw_short;
 use crate::pen::draw_weak;
 use coff::import::ImportNameType;
@@ -29,13 +28,13 @@ ghost use Rattle.format.specs.declared.Checked.the-variants.{Fine};
 ghost use Rattle.coff.specs.Import.{kindNumber, typeNumber};
 ghost use Rattle.lists.specs.Held.{Held};
 ghost use Rattle.plans.specs.Shape.{sourceOf};
-ghost use Rattle.walks.specs.Pen.{Room, Drew};
+ghost use Rattle.walks.specs.Pen.{entryOf, atOf, Room, Drew};
 ghost use Rattle.walks.specs.Walk.{importOf, drawn, recordMembers, passMembers};
 
 // A record's short import; its export string is given in two pieces.
 fn draw_import(
     out: &mut [u8],
-    pen: Pen,
+    pen: u64,
     b: &[u8],
     k: u32,
     sym: &[u8],
@@ -44,11 +43,11 @@ fn draw_import(
     head: &[u8],
     tail: &[u8],
     machine: u16,
-) -> Pen
-    requires { ⌜ Room (pen .entry) (pen .at) (importOf machine (exportAt (now b) k) (typeNumber «name_type») (now sym) (now dll) (now head ++ now tail) ∷ []) ⌝ }
+) -> u64
+    requires { ⌜ Room (entryOf pen) (atOf pen) (importOf machine (exportAt (now b) k) (typeNumber «name_type») (now sym) (now dll) (now head ++ now tail) ∷ []) ⌝ }
     requires { ⌜ Held (now b) k ⌝ }
     requires { ⌜ ((length (now sym) ≤ 65536) × (length (now dll) ≤ 65536)) × ((length (now head) ≤ 65536) × (length (now tail) ≤ 65536)) ⌝ }
-    ensures { λ r. ⌜ Drew (now (out .entry)) (pen .entry) (pen .at) (importOf machine (exportAt (now (b .entry)) k) (typeNumber «name_type») (now (sym .entry)) (now (dll .entry)) (now (head .entry) ++ now (tail .entry)) ∷ []) (now (out .exit)) (r .entry) (r .at) ⌝ }
+    ensures { λ r. ⌜ Drew (now (out .entry)) (entryOf pen) (atOf pen) (importOf machine (exportAt (now (b .entry)) k) (typeNumber «name_type») (now (sym .entry)) (now (dll .entry)) (now (head .entry) ++ now (tail .entry)) ∷ []) (now (out .exit)) (entryOf r) (atOf r) ⌝ }
 {
     let ordinal = record::ordinal(b, k);
     let import_type = record::import_type(b, k);
@@ -69,7 +68,7 @@ fn draw_import(
 // A record's short import, exporting its public name demangled.
 fn draw_demangled(
     out: &mut [u8],
-    pen: Pen,
+    pen: u64,
     b: &[u8],
     k: u32,
     sym: &[u8],
@@ -77,11 +76,11 @@ fn draw_demangled(
     name_type: ImportNameType,
     public: &[u8],
     machine: u16,
-) -> Pen
-    requires { ⌜ Room (pen .entry) (pen .at) (importOf machine (exportAt (now b) k) (typeNumber «name_type») (now sym) (now dll) (Option·getD (demangle (now public)) []) ∷ []) ⌝ }
+) -> u64
+    requires { ⌜ Room (entryOf pen) (atOf pen) (importOf machine (exportAt (now b) k) (typeNumber «name_type») (now sym) (now dll) (Option·getD (demangle (now public)) []) ∷ []) ⌝ }
     requires { ⌜ Held (now b) k ⌝ }
     requires { ⌜ (length (now sym) ≤ 65536) × (length (now dll) ≤ 65536) × (length (now public) ≤ 65536) ⌝ }
-    ensures { λ r. ⌜ Drew (now (out .entry)) (pen .entry) (pen .at) (importOf machine (exportAt (now (b .entry)) k) (typeNumber «name_type») (now (sym .entry)) (now (dll .entry)) (Option·getD (demangle (now (public .entry))) []) ∷ []) (now (out .exit)) (r .entry) (r .at) ⌝ }
+    ensures { λ r. ⌜ Drew (now (out .entry)) (entryOf pen) (atOf pen) (importOf machine (exportAt (now (b .entry)) k) (typeNumber «name_type») (now (sym .entry)) (now (dll .entry)) (Option·getD (demangle (now (public .entry))) []) ∷ []) (now (out .exit)) (entryOf r) (atOf r) ⌝ }
 {
     let n = public.len();
     match mangler::get_arm64ec_demangled_function_name(public) {
@@ -113,7 +112,7 @@ fn draw_demangled(
 // A record's short import, with an export string by where it comes from.
 fn draw_source(
     out: &mut [u8],
-    pen: Pen,
+    pen: u64,
     b: &[u8],
     k: u32,
     sym: &[u8],
@@ -122,11 +121,11 @@ fn draw_source(
     export: Source,
     public: &[u8],
     machine: u16,
-) -> Pen
-    requires { ⌜ Room (pen .entry) (pen .at) (importOf machine (exportAt (now b) k) (typeNumber «name_type») (now sym) (now dll) (sourceOf (exportAt (now b) k) (now public) «export») ∷ []) ⌝ }
+) -> u64
+    requires { ⌜ Room (entryOf pen) (atOf pen) (importOf machine (exportAt (now b) k) (typeNumber «name_type») (now sym) (now dll) (sourceOf (exportAt (now b) k) (now public) «export») ∷ []) ⌝ }
     requires { ⌜ Held (now b) k ⌝ }
     requires { ⌜ (length (now sym) ≤ 65536) × (length (now dll) ≤ 65536) × (length (now public) ≤ 65536) ⌝ }
-    ensures { λ r. ⌜ Drew (now (out .entry)) (pen .entry) (pen .at) (importOf machine (exportAt (now (b .entry)) k) (typeNumber «name_type») (now (sym .entry)) (now (dll .entry)) (sourceOf (exportAt (now (b .entry)) k) (now (public .entry)) «export») ∷ []) (now (out .exit)) (r .entry) (r .at) ⌝ }
+    ensures { λ r. ⌜ Drew (now (out .entry)) (entryOf pen) (atOf pen) (importOf machine (exportAt (now (b .entry)) k) (typeNumber «name_type») (now (sym .entry)) (now (dll .entry)) (sourceOf (exportAt (now (b .entry)) k) (now (public .entry)) «export») ∷ []) (now (out .exit)) (entryOf r) (atOf r) ⌝ }
 {
     match export {
         Source::Nothing => draw_import(out, pen, b, k, sym, dll, name_type, b"", b"", machine),
@@ -162,7 +161,7 @@ fn draw_source(
 // A record's short import under its public name, with `#` before it or without.
 fn draw_final(
     out: &mut [u8],
-    pen: Pen,
+    pen: u64,
     b: &[u8],
     k: u32,
     dll: &[u8],
@@ -171,11 +170,11 @@ fn draw_final(
     export: Source,
     public: &[u8],
     machine: u16,
-) -> Pen
-    requires { ⌜ Room (pen .entry) (pen .at) (importOf machine (exportAt (now b) k) (typeNumber «name_type») (if hashed then hash ∷ now public else now public) (now dll) (sourceOf (exportAt (now b) k) (now public) «export») ∷ []) ⌝ }
+) -> u64
+    requires { ⌜ Room (entryOf pen) (atOf pen) (importOf machine (exportAt (now b) k) (typeNumber «name_type») (if hashed then hash ∷ now public else now public) (now dll) (sourceOf (exportAt (now b) k) (now public) «export») ∷ []) ⌝ }
     requires { ⌜ Held (now b) k ⌝ }
     requires { ⌜ (length (now dll) ≤ 255) × (length (now public) ≤ 8189) ⌝ }
-    ensures { λ r. ⌜ Drew (now (out .entry)) (pen .entry) (pen .at) (importOf machine (exportAt (now (b .entry)) k) (typeNumber «name_type») (if hashed then hash ∷ now (public .entry) else now (public .entry)) (now (dll .entry)) (sourceOf (exportAt (now (b .entry)) k) (now (public .entry)) «export») ∷ []) (now (out .exit)) (r .entry) (r .at) ⌝ }
+    ensures { λ r. ⌜ Drew (now (out .entry)) (entryOf pen) (atOf pen) (importOf machine (exportAt (now (b .entry)) k) (typeNumber «name_type») (if hashed then hash ∷ now (public .entry) else now (public .entry)) (now (dll .entry)) (sourceOf (exportAt (now (b .entry)) k) (now (public .entry)) «export») ∷ []) (now (out .exit)) (entryOf r) (atOf r) ⌝ }
 {
     if !hashed {
         return draw_source(
@@ -211,15 +210,15 @@ fn draw_final(
 // A weak external that leads to a final name: for code without prefix and with; otherwise only with.
 fn draw_alias(
     out: &mut [u8],
-    pen: Pen,
+    pen: u64,
     import_type: ImportType,
     target: &[u8],
     public: &[u8],
     machine: u16,
-) -> Pen
-    requires { ⌜ Room (pen .entry) (pen .at) (aliasMembers machine (kindNumber «import_type») (now target) (now public)) ⌝ }
+) -> u64
+    requires { ⌜ Room (entryOf pen) (atOf pen) (aliasMembers machine (kindNumber «import_type») (now target) (now public)) ⌝ }
     requires { ⌜ (length (now target) ≤ 65536) × (length (now public) ≤ 65536) ⌝ }
-    ensures { λ r. ⌜ Drew (now (out .entry)) (pen .entry) (pen .at) (aliasMembers machine (kindNumber «import_type») (now (target .entry)) (now (public .entry))) (now (out .exit)) (r .entry) (r .at) ⌝ }
+    ensures { λ r. ⌜ Drew (now (out .entry)) (entryOf pen) (atOf pen) (aliasMembers machine (kindNumber «import_type») (now (target .entry)) (now (public .entry))) (now (out .exit)) (entryOf r) (atOf r) ⌝ }
 {
     if import_type.number() == 0 {
         let next = draw_weak(out, pen, target, public, false, machine);
@@ -231,18 +230,18 @@ fn draw_alias(
 // An alias of the import of another record, whose final name is its public name.
 fn draw_alias_to(
     out: &mut [u8],
-    pen: Pen,
+    pen: u64,
     b: &[u8],
     k: u32,
     other: u32,
     public: &[u8],
     machine: u16,
-) -> Pen
-    requires { ⌜ Room (pen .entry) (pen .at) (aliasMembers machine (kind (exportAt (now b) k)) (Option·getD (publicName (exportAt (now b) other)) []) (now public)) ⌝ }
+) -> u64
+    requires { ⌜ Room (entryOf pen) (atOf pen) (aliasMembers machine (kind (exportAt (now b) k)) (Option·getD (publicName (exportAt (now b) other)) []) (now public)) ⌝ }
     requires { ⌜ Held (now b) k × Held (now b) other ⌝ }
     requires { ⌜ isSome (publicName (exportAt (now b) other)) ≡ true ⌝ }
     requires { ⌜ length (now public) ≤ 8189 ⌝ }
-    ensures { λ r. ⌜ Drew (now (out .entry)) (pen .entry) (pen .at) (aliasMembers machine (kind (exportAt (now (b .entry)) k)) (Option·getD (publicName (exportAt (now (b .entry)) other)) []) (now (public .entry))) (now (out .exit)) (r .entry) (r .at) ⌝ }
+    ensures { λ r. ⌜ Drew (now (out .entry)) (entryOf pen) (atOf pen) (aliasMembers machine (kind (exportAt (now (b .entry)) k)) (Option·getD (publicName (exportAt (now (b .entry)) other)) []) (now (public .entry))) (now (out .exit)) (entryOf r) (atOf r) ⌝ }
 {
     let import_type = record::import_type(b, k);
     if record::absent(b, other, record::EXT_NAME) {
@@ -269,7 +268,7 @@ fn draw_alias_to(
 // What is written of a deferred record: aliases of the last import that answers to its import_name, or an import that exports it.
 fn draw_deferred(
     out: &mut [u8],
-    pen: Pen,
+    pen: u64,
     b: &[u8],
     k: u32,
     dll: &[u8],
@@ -278,14 +277,14 @@ fn draw_deferred(
     mingw: bool,
     from: u32,
     to: u32,
-) -> Pen
-    requires { ⌜ Room (pen .entry) (pen .at) (aliasOrShort machine mingw (now dll) (exportAt (now b) k) (now public) (bytesAt (now b) (fieldAt k 3)) (lastAnswering machine mingw (bytesAt (now b) (fieldAt k 3)) (exportsFrom (now b) from (to - from)))) ⌝ }
+) -> u64
+    requires { ⌜ Room (entryOf pen) (atOf pen) (aliasOrShort machine mingw (now dll) (exportAt (now b) k) (now public) (bytesAt (now b) (fieldAt k 3)) (lastAnswering machine mingw (bytesAt (now b) (fieldAt k 3)) (exportsFrom (now b) from (to - from)))) ⌝ }
     requires { ⌜ Held (now b) k ⌝ }
     requires { ⌜ checkList (now b) ≡ Fine ⌝ }
     requires { ⌜ (machine ≡ arm64ec → ⊥) ⌝ }
     requires { ⌜ (from ≤ k) × (k < to) × (to ≤ bothCounts (now b)) ⌝ }
     requires { ⌜ (length (now dll) ≤ 255) × (length (now public) ≤ 8189) ⌝ }
-    ensures { λ r. ⌜ Drew (now (out .entry)) (pen .entry) (pen .at) (aliasOrShort machine mingw (now (dll .entry)) (exportAt (now (b .entry)) k) (now (public .entry)) (bytesAt (now (b .entry)) (fieldAt k 3)) (lastAnswering machine mingw (bytesAt (now (b .entry)) (fieldAt k 3)) (exportsFrom (now (b .entry)) from (to - from)))) (now (out .exit)) (r .entry) (r .at) ⌝ }
+    ensures { λ r. ⌜ Drew (now (out .entry)) (entryOf pen) (atOf pen) (aliasOrShort machine mingw (now (dll .entry)) (exportAt (now (b .entry)) k) (now (public .entry)) (bytesAt (now (b .entry)) (fieldAt k 3)) (lastAnswering machine mingw (bytesAt (now (b .entry)) (fieldAt k 3)) (exportsFrom (now (b .entry)) from (to - from)))) (now (out .exit)) (entryOf r) (atOf r) ⌝ }
 {
     let wanted = record::string(b, k, record::IMPORT_NAME);
     match keys::last_answering(b, machine, mingw, from, to, wanted) {
@@ -308,7 +307,7 @@ fn draw_deferred(
 // What is written of a record under its public name, at once or later.
 fn draw_named(
     out: &mut [u8],
-    pen: Pen,
+    pen: u64,
     b: &[u8],
     k: u32,
     dll: &[u8],
@@ -318,13 +317,13 @@ fn draw_named(
     from: u32,
     to: u32,
     later: bool,
-) -> Pen
-    requires { ⌜ Room (pen .entry) (pen .at) (drawn later machine mingw (now dll) (exportsFrom (now b) from (to - from)) (exportAt (now b) k) (planPublic machine mingw (exportAt (now b) k) (some (now public)))) ⌝ }
+) -> u64
+    requires { ⌜ Room (entryOf pen) (atOf pen) (drawn later machine mingw (now dll) (exportsFrom (now b) from (to - from)) (exportAt (now b) k) (planPublic machine mingw (exportAt (now b) k) (some (now public)))) ⌝ }
     requires { ⌜ Held (now b) k ⌝ }
     requires { ⌜ checkList (now b) ≡ Fine ⌝ }
     requires { ⌜ (from ≤ k) × (k < to) × (to ≤ bothCounts (now b)) ⌝ }
     requires { ⌜ (length (now dll) ≤ 255) × (length (now public) ≤ 8189) ⌝ }
-    ensures { λ r. ⌜ Drew (now (out .entry)) (pen .entry) (pen .at) (drawn later machine mingw (now (dll .entry)) (exportsFrom (now (b .entry)) from (to - from)) (exportAt (now (b .entry)) k) (planPublic machine mingw (exportAt (now (b .entry)) k) (some (now (public .entry))))) (now (out .exit)) (r .entry) (r .at) ⌝ }
+    ensures { λ r. ⌜ Drew (now (out .entry)) (entryOf pen) (atOf pen) (drawn later machine mingw (now (dll .entry)) (exportsFrom (now (b .entry)) from (to - from)) (exportAt (now (b .entry)) k) (planPublic machine mingw (exportAt (now (b .entry)) k) (some (now (public .entry))))) (now (out .exit)) (entryOf r) (atOf r) ⌝ }
 {
     match plan(b, k, machine, mingw, public) {
         Shape::Short {
@@ -362,7 +361,7 @@ fn draw_named(
 // list, or is built where it is renamed.
 fn draw_record(
     out: &mut [u8],
-    pen: Pen,
+    pen: u64,
     b: &[u8],
     k: u32,
     dll: &[u8],
@@ -371,13 +370,13 @@ fn draw_record(
     from: u32,
     to: u32,
     later: bool,
-) -> Pen
-    requires { ⌜ Room (pen .entry) (pen .at) (recordMembers later machine mingw (now dll) (exportsFrom (now b) from (to - from)) (now b) k) ⌝ }
+) -> u64
+    requires { ⌜ Room (entryOf pen) (atOf pen) (recordMembers later machine mingw (now dll) (exportsFrom (now b) from (to - from)) (now b) k) ⌝ }
     requires { ⌜ Held (now b) k ⌝ }
     requires { ⌜ checkList (now b) ≡ Fine ⌝ }
     requires { ⌜ (from ≤ k) × (k < to) × (to ≤ bothCounts (now b)) ⌝ }
     requires { ⌜ length (now dll) ≤ 255 ⌝ }
-    ensures { λ r. ⌜ Drew (now (out .entry)) (pen .entry) (pen .at) (recordMembers later machine mingw (now (dll .entry)) (exportsFrom (now (b .entry)) from (to - from)) (now (b .entry)) k) (now (out .exit)) (r .entry) (r .at) ⌝ }
+    ensures { λ r. ⌜ Drew (now (out .entry)) (entryOf pen) (atOf pen) (recordMembers later machine mingw (now (dll .entry)) (exportsFrom (now (b .entry)) from (to - from)) (now (b .entry)) k) (now (out .exit)) (entryOf r) (atOf r) ⌝ }
 {
     if later && record::absent(b, k, record::IMPORT_NAME) {
         return pen;
@@ -430,7 +429,7 @@ fn draw_record(
 // The records of a list, at once or later.
 fn draw_pass(
     out: &mut [u8],
-    pen: Pen,
+    pen: u64,
     b: &[u8],
     dll: &[u8],
     machine: u16,
@@ -438,12 +437,12 @@ fn draw_pass(
     from: u32,
     to: u32,
     later: bool,
-) -> Pen
-    requires { ⌜ Room (pen .entry) (pen .at) (passMembers later machine mingw (now dll) (exportsFrom (now b) from (to - from)) (now b) from (to - from)) ⌝ }
+) -> u64
+    requires { ⌜ Room (entryOf pen) (atOf pen) (passMembers later machine mingw (now dll) (exportsFrom (now b) from (to - from)) (now b) from (to - from)) ⌝ }
     requires { ⌜ checkList (now b) ≡ Fine ⌝ }
     requires { ⌜ (from ≤ to) × (to ≤ bothCounts (now b)) ⌝ }
     requires { ⌜ length (now dll) ≤ 255 ⌝ }
-    ensures { λ r. ⌜ Drew (now (out .entry)) (pen .entry) (pen .at) (passMembers later machine mingw (now (dll .entry)) (exportsFrom (now (b .entry)) from (to - from)) (now (b .entry)) from (to - from)) (now (out .exit)) (r .entry) (r .at) ⌝ }
+    ensures { λ r. ⌜ Drew (now (out .entry)) (entryOf pen) (atOf pen) (passMembers later machine mingw (now (dll .entry)) (exportsFrom (now (b .entry)) from (to - from)) (now (b .entry)) from (to - from)) (now (out .exit)) (entryOf r) (atOf r) ⌝ }
 {
     let mut next = pen;
     let mut k = from;
@@ -457,19 +456,19 @@ fn draw_pass(
 // The members of the list of the records from one up to another.
 pub fn draw_list(
     out: &mut [u8],
-    pen: Pen,
+    pen: u64,
     b: &[u8],
     dll: &[u8],
     machine: u16,
     mingw: bool,
     from: u32,
     to: u32,
-) -> Pen
-    requires { ⌜ Room (pen .entry) (pen .at) (membersOf machine mingw (now dll) (exportsFrom (now b) from (to - from))) ⌝ }
+) -> u64
+    requires { ⌜ Room (entryOf pen) (atOf pen) (membersOf machine mingw (now dll) (exportsFrom (now b) from (to - from))) ⌝ }
     requires { ⌜ checkList (now b) ≡ Fine ⌝ }
     requires { ⌜ (from ≤ to) × (to ≤ bothCounts (now b)) ⌝ }
     requires { ⌜ length (now dll) ≤ 255 ⌝ }
-    ensures { λ r. ⌜ Drew (now (out .entry)) (pen .entry) (pen .at) (membersOf machine mingw (now (dll .entry)) (exportsFrom (now (b .entry)) from (to - from))) (now (out .exit)) (r .entry) (r .at) ⌝ }
+    ensures { λ r. ⌜ Drew (now (out .entry)) (entryOf pen) (atOf pen) (membersOf machine mingw (now (dll .entry)) (exportsFrom (now (b .entry)) from (to - from))) (now (out .exit)) (entryOf r) (atOf r) ⌝ }
 {
     let next = draw_pass(out, pen, b, dll, machine, mingw, from, to, false);
     draw_pass(out, next, b, dll, machine, mingw, from, to, true)

@@ -5,7 +5,7 @@ use native.Mathlib.Omega.{arith}
 use lib.ListN.{length}
 use Rattle.laws.proofs.Totals.{stem-short}
 use Rattle.format.proofs.Listed.{listed}
-use Rattle.library.proofs.MemberSets.{stem-part, counts-small, set-fixed, set-first, set-native, set-drew}
+use Rattle.library.proofs.MemberSets.{stem-part, counts-small, set-fixed, set-first, set-native, set-drew, counted-by}
 use borrow.Author.Needs.{needs}
 use Rattle.library.proofs.set.draw_members.Statement.{statement}
 use Rattle.library.proofs.set.draw_members.Tie as tie
@@ -32,10 +32,11 @@ draw-list-requires-2 : tie.Need-draw-list-requires-2
 draw-list-requires-2 c κs = let (f, n, s) = counts-small _ (c .before .before .before .before .before .before .before .before .before .before .before .before .before .before .before .before .pre .1 .0) (c .before .before .before .before .before .before .before .before .before .before .u32-at .ensures) (c .before .before .before .before .before .before .before .before .before .u32-at2 .ensures) in (set-native _ _ _ _ _ _ (c .before .before .before .before .before .before .before .before .before .before .before .before .before .before .before .before .pre .0) (c .before .before .before .before .before .before .before .draw-fixed .ensures) (c .before .before .before .before .before .before .before .before .before .before .u32-at .ensures) (c .before .before .before .draw-list .ensures) (ap (λ (n : ℕ). c .before .before .before .before .before .before .before .before .before .before .u32-at .result + n) (c .before .before .before .before .before .before .before .before .before .u32-at2 .ensures)), ((c .before .before .before .before .before .before .before .before .before .before .before .before .before .before .before .before .pre .1 .0), ((omega arith, omega arith), c .before .before .before .before .before .before .before .before .before .before .before .before .before .before .before .before .pre .1 .1 .1)))
 
 returns : tie.Need-returns
-returns c = set-drew _ _ _ _ _ _ (c .before .before .before .before .before .before .before .before .before .before .before .before .before .before .before .before .before .before .before .before .before .before .before .pre .0) (c .before .before .before .before .before .before .before .before .before .before .before .before .before .before .draw-fixed .ensures) (c .before .before .before .before .before .before .before .before .before .before .before .before .before .before .before .before .before .u32-at .ensures) (c .before .before .before .before .before .before .before .before .before .before .draw-list .ensures) (ap (λ (n : ℕ). c .before .before .before .before .before .before .before .before .before .before .before .before .before .before .before .before .before .u32-at .result + n) (c .before .before .before .before .before .before .before .before .before .before .before .before .before .before .before .before .u32-at2 .ensures)) (c .before .before .before .before .before .before .draw-list2 .ensures)
+returns c = counted-by (c .before .before .before .entry-of .ensures) (c .before .before .entry-of2 .ensures) (c .before .entry-of3 .ensures) (c .entry-of4 .ensures) (set-drew _ _ _ _ _ _ (c .before .before .before .before .before .before .before .before .before .before .before .before .before .before .before .before .before .before .before .before .before .before .before .pre .0) (c .before .before .before .before .before .before .before .before .before .before .before .before .before .before .draw-fixed .ensures) (c .before .before .before .before .before .before .before .before .before .before .before .before .before .before .before .before .before .u32-at .ensures) (c .before .before .before .before .before .before .before .before .before .before .draw-list .ensures) (ap (λ (n : ℕ). c .before .before .before .before .before .before .before .before .before .before .before .before .before .before .before .before .before .u32-at .result + n) (c .before .before .before .before .before .before .before .before .before .before .before .before .before .before .before .before .u32-at2 .ensures)) (c .before .before .before .before .before .before .draw-list2 .ensures))
 
 pub draw-members-spec : {M : Type 1} → statement M
 draw-members-spec =
     tie.close
     (tie.spec (λ c κs. search needs) part-requires u32-at-requires u32-at-requires-2 add-both draw-fixed-requires
-    draw-list-requires draw-list-requires-2 (λ c. search needs) (λ c. search needs) (λ c. search needs) returns)
+    draw-list-requires draw-list-requires-2 (λ c κs. search needs) (λ c κs. search needs) (λ c. search needs)
+    (λ c κs. search needs) (λ c κs. search needs) (λ c. search needs) (λ c. search needs) returns)

@@ -1,5 +1,4 @@
 -- `walks::pen::draw_null_descriptor` meets its contract.
-use native.Mathlib.Omega.{arith}
 use Rattle.walks.proofs.Pens.{room-one, drew-noted, drew-empty}
 use borrow.Author.Needs.{needs}
 use Rattle.walks.proofs.pen.draw_null_descriptor.Statement.{statement}
@@ -12,12 +11,13 @@ returns : tie.Need-returns
 returns c = drew-empty _ (c .before .before .null-descriptor-size .ensures _) (c .before .if1 .taken) (c .moved .ensures .0) (c .moved .ensures .1)
 
 noted-requires : tie.Need-noted-requires
-noted-requires c κs = room-one (c .before .before .before .before .before .before .before .before .before .pre .0) (c .before .before .before .before .before .before .null-descriptor-size .ensures _)
+noted-requires c κs = room-one (c .before .before .before .before .before .before .before .before .before .before .pre .0) (c .before .before .before .before .before .before .before .null-descriptor-size .ensures _)
 
 returns-2 : tie.Need-returns-2
-returns-2 c = drew-noted _ (c .before .before .before .before .before .before .before .before .before .null-descriptor-size .ensures _) (c .before .before .before .before .before .before .create-null-import-descriptor .ensures) (c .before .before .noted .ensures)
+returns-2 c = drew-noted _ (c .before .before .before .before .before .before .before .before .before .before .null-descriptor-size .ensures _) (c .before .before .before .before .before .before .before .before .at-of .ensures) (c .before .before .before .before .before .before .create-null-import-descriptor .ensures) (c .before .before .noted .ensures)
 
 pub draw-null-descriptor-spec : {M : Type 1} → statement M
 draw-null-descriptor-spec =
     tie.close
-    (tie.spec (λ c κs. search needs) moved-requires returns (λ c κs. search needs) noted-requires (λ c. search needs) returns-2)
+    (tie.spec (λ c κs. search needs) moved-requires returns (λ c κs. search needs) (λ c κs. search needs) noted-requires
+    (λ c. search needs) returns-2)

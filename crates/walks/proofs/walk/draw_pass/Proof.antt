@@ -1,11 +1,9 @@
 -- `walks::walk::draw_pass` meets its contract.
 use Prim.Native.Nat.{_-_, _≤_}
-use mathlib.Core.Path.{refl, sym, ap, _∙_}
 use native.Mathlib.Omega.{arith}
-use lib.ListN.{length}
 use Rattle.format.specs.Exports.{exportsFrom}
 use Rattle.lists.proofs.Records.{held}
-use Rattle.walks.specs.Pen.{Drew}
+use Rattle.walks.specs.Pen.{entryOf, atOf, Drew}
 use Rattle.walks.specs.Walk.{passMembers}
 use Rattle.walks.proofs.Pens.{drew-as, drew-none, drew-length}
 use Rattle.walks.proofs.Records.{in-none, in-end, pass-room, pass-drew}
@@ -14,12 +12,12 @@ use Rattle.walks.proofs.walk.draw_pass.Statement.{statement}
 use Rattle.walks.proofs.walk.draw_pass.Tie as tie
 
 abbrev Inv-loop : tie.InvT-loop
-Inv-loop out₀ b dll machine mingw from to later next₀ k₀ out next k =
+Inv-loop out₀ pen b dll machine mingw from to later next₀ k₀ out next k =
     (from ≤ k) × (k ≤ to)
-    × Drew out₀ (next₀ .entry) (next₀ .at) (passMembers later machine mingw dll (exportsFrom b from (to - from)) b from (k - from)) out (next .entry) (next .at)
+    × Drew out₀ (entryOf pen) (atOf pen) (passMembers later machine mingw dll (exportsFrom b from (to - from)) b from (k - from)) out (entryOf next) (atOf next)
 
 abbrev μ-loop : tie.MeasureT-loop
-μ-loop out₀ b dll machine mingw from to later next₀ k₀ out next k = to - k
+μ-loop out₀ pen b dll machine mingw from to later next₀ k₀ out next k = to - k
 
 loop-holds : tie.Need-loop-holds Inv-loop μ-loop
 loop-holds c = (omega arith, c .before .before .before .pre .1 .1 .0 .0, drew-as (in-none _ _ _) (drew-none _ _ _))

@@ -1,0 +1,82 @@
+-- What a kept answer says, and what a comparison with it tells.
+use Prim.Native.Nat.{ℕ, _-_}
+use mathlib.Core.Path.{_≡_, refl, sym, ap, _∙_}
+use mathlib.Core.Bool.{true, false}
+use mathlib.Core.List.{_++_}
+use lib.ListN.{length, take, drop, take-append-drop}
+use lib.Seq.{take-append-seam}
+use native.Mathlib.Omega.{arith}
+use borrow.Author.Tests.{ne-eqb}
+use Rattle.wire.specs.Bytes.{Bytes, same}
+use Rattle.wire.proofs.Bytes.{same-eq}
+use Rattle.names.proofs.Searches.{take-rest}
+use Rattle.format.specs.Library.{Options, memberSet}
+use Rattle.format.specs.Refusals.{checkAll}
+use Rattle.format.specs.Answers.{written, outputAfter, total, leaves}
+use Rattle.format.specs.declared.Checked.{Checked}
+use Rattle.format.specs.declared.Checked.the-variants as C
+use Rattle.format.specs.declared.Checked.the-variants.{Fine}
+use Rattle.format.specs.declared.Written.{Written}
+use Rattle.format.specs.declared.Written.the-variants.{Total, Refused}
+use Rattle.write_run.specs.declared.replay.Kept.{Kept}
+use Rattle.write_run.specs.Kept.{answer, output, Agrees}
+
+-- a comparison that says no tells nothing
+pub differs : {A : Type 0} → false ≡ true → A
+differs e = let z : _≡_ {A = ℕ} 0 1 = cc in absurd (omega arith)
+
+-- an output in two parts
+pub two-parts : (n : ℕ) (set before out : Bytes) → same (take n out) set ≡ true → same (take (length out - n) (drop n out)) (take (length before - n) (drop n before)) ≡ true → out ≡ set ++ drop n before
+two-parts n set before out e h =
+    sym (take-append-drop n out)
+    ∙ ap (λ (x : Bytes). x ++ drop n out) (same-eq _ _ e)
+    ∙ ap (λ (x : Bytes). set ++ x) (sym (take-rest out n) ∙ same-eq _ _ h ∙ take-rest before n)
+
+-- the Rust wrote
+pub answer-total : (k : Kept) (n : ℕ) → k .number ≡ 0 → n ≡ k .value → Total n ≡ answer k
+unfolding answer
+answer-total k n e h = rw (e, h)
+
+pub output-total : (k : Kept) (set before out : Bytes) → k .number ≡ 0 → out ≡ set ++ drop (length set) before → out ≡ output k set before
+unfolding output
+output-total k set before out e h = rw (e, h)
+
+-- the Rust refused
+pub answer-refused : (k : Kept) (number place : ℕ) → (k .number ≡ 0 → ⊥) → number ≡ k .number → place ≡ k .value → Refused number place ≡ answer k
+unfolding answer
+answer-refused k number place e f h = rw (f, h, ne-eqb 0 (k .number) (λ z. e (sym z)))
+
+pub output-refused : (k : Kept) (set before out : Bytes) → (k .number ≡ 0 → ⊥) → out ≡ before → out ≡ output k set before
+unfolding output
+output-refused k set before out e h = rw (h, ne-eqb 0 (k .number) (λ z. e (sym z)))
+
+-- ---- what the writer said and left, and what the Rust did
+
+module _ {o : Options} {list set before out after : Bytes} {k : Kept} {w v : Written} (said : w ≡ written o list (length out)) (told : w ≡ v) (left : after ≡ outputAfter o list out) (guard : before ≡ out) where
+  pub agrees-written : (v ≡ answer k) × (k .value ≡ length set) × (after ≡ output k set before) → Agrees o list k set out
+  agrees-written (e, n, h) = record { answers = sym said ∙ told ∙ e; total = λ z. n; leaves = sym left ∙ h ∙ ap (output k set) guard }
+
+  pub agrees-refused : (v ≡ answer k) × (k .number ≡ 0 → ⊥) × ((s : Bytes) → after ≡ output k s before) → Agrees o list k set out
+  agrees-refused (e, n, h) = record { answers = sym said ∙ told ∙ e; total = λ z. absurd (n z); leaves = sym left ∙ h set ∙ ap (output k set) guard }
+
+-- ---- what an agreement says of the definitions: the members are the Rust's
+
+set-of : (c : Checked) (members set out : Bytes) {n : ℕ} → total c (length members) ≡ Total n → n ≡ length set → leaves c members out ≡ set ++ drop (length set) out → members ≡ set
+unfolding total leaves
+set-of Fine members set out e h g =
+    let n : length members ≡ length set = cc in
+    sym (take-append-seam members (drop (length members) out)) ∙ ap (λ (x : Bytes). take (length members) x) g ∙ ap (λ (x : ℕ). take x (set ++ drop (length set) out)) n ∙ take-append-seam set (drop (length set) out)
+set-of (C.Refused number place) members set out e h g = cc
+
+pub agrees-set : (o : Options) (list : Bytes) (k : Kept) (set out : Bytes) → Agrees o list k set out → k .number ≡ 0 → memberSet o list ≡ set
+unfolding written outputAfter answer output
+agrees-set o list k set out a z = by (checkAll o list (length out)) refl
+  where
+    answered : written o list (length out) ≡ Total (k .value)
+    answered = a .answers ∙ rw z
+
+    left : outputAfter o list out ≡ set ++ drop (length set) out
+    left = a .leaves ∙ rw z
+
+    by : (c : Checked) → checkAll o list (length out) ≡ c → memberSet o list ≡ set
+    by c e = set-of c (memberSet o list) set out (ap (λ (x : Checked). total x (length (memberSet o list))) (sym e) ∙ answered) (a .total z) (ap (λ (x : Checked). leaves x (memberSet o list) out) (sym e) ∙ left)

@@ -1,0 +1,3 @@
+-- Laws of the list and of its cases' answers.
+pub mod Agreements
+pub mod Places

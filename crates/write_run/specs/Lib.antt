@@ -1,0 +1,3 @@
+-- The list of answers.
+pub mod Kept
+pub mod Cases
