@@ -1,7 +1,7 @@
 -- Laws of the name types: what each drops, what it leaves, and how an export's is chosen.
 use Prim.Native.Nat.{ℕ, _-_, _≤_}
 use mathlib.Core.Path.{_≡_, refl, sym, ap, _∙_}
-use mathlib.Core.Bool.{Bool, _&&_, _||_, not}
+use mathlib.Core.Bool.{Bool, _&&_, _||_, not, true, false}
 use mathlib.Core.List.{[], _∷_}
 use mathlib.Core.Logic.{⊎-elim}
 use native.Mathlib.Omega.{arith}
@@ -28,14 +28,23 @@ pub prefixed-by : (s : Bytes) {a b c : Bool} → starts question s ≡ a → sta
 unfolding prefixed
 prefixed-by s e f g = rw (e, f, g)
 
-pub plain-by : (machine : ℕ) (mingw : Bool) (base name : Bytes) {d b i u : Bool}
-    → (starts underscore name && holds at-sign name && not mingw) ≡ d
-    → same base name ≡ b
-    → eqb machine i386 ≡ i
-    → starts underscore base ≡ u
-    → plainType machine mingw base name ≡ (if d then 1 else if not b then 3 else if i && u then 2 else 1)
+-- by its parts: decorated, compared, and what is left
+pub plain-decorated : (machine : ℕ) (mingw : Bool) (base name : Bytes) → (starts underscore name && holds at-sign name && not mingw) ≡ true → 1 ≡ plainType machine mingw base name
 unfolding plainType
-plain-by machine mingw base name e f g h = rw (e, f, g, h)
+plain-decorated machine mingw base name e = rw e
+
+module _ (machine : ℕ) (mingw : Bool) (base name : Bytes) (e : (starts underscore name && holds at-sign name && not mingw) ≡ false) where
+  pub plain-other : same base name ≡ false → 3 ≡ plainType machine mingw base name
+  unfolding plainType
+  plain-other f = rw (e, f)
+
+  pub plain-bare : {t : ℕ} → same base name ≡ true → t ≡ (if eqb machine i386 && starts underscore base then 2 else 1) → t ≡ plainType machine mingw base name
+  unfolding plainType
+  plain-bare f g = rw (e, f) g
+
+pub bare-by : (machine : ℕ) (base : Bytes) {i u : Bool} → eqb machine i386 ≡ i → starts underscore base ≡ u
+    → _≡_ {A = ℕ} (if i && u then 2 else 1) (if eqb machine i386 && starts underscore base then 2 else 1)
+bare-by machine base e f = rw (e, f)
 
 -- three tests in a row
 pub three-by : (a b c : Bool) {x y : Bool} → a ≡ x → b ≡ y → (a && b && c) ≡ (x && y && c)

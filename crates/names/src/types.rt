@@ -2,8 +2,10 @@
 ghost use Prim.Native.Nat.{_≤_};
 ghost use mathlib.Core.Path.{_≡_};
 ghost use mathlib.Core.Bool.{_&&_, not};
+ghost use lib.Dec.{eqb};
 ghost use lib.ListN.{length};
-ghost use Rattle.wire.specs.Bytes.{starts, holds};
+ghost use Rattle.wire.specs.Bytes.{if_then_else_, starts, holds};
+ghost use Rattle.format.specs.Machines.{i386};
 ghost use Rattle.format.specs.Names.{underscore, at-sign, prefixed, plainType};
 ghost use Rattle.coff.specs.Import.{typeNumber};
 ghost use Rattle.names.specs.Types.{Applied};
@@ -67,6 +69,18 @@ fn decorated(name: &[u8], mingw: bool) -> bool
     !mingw
 }
 
+// The type of an undecorated name that is its own base.
+fn bare_type(base: &[u8], machine: u16) -> ImportNameType
+    ensures { λ r. ⌜ typeNumber r ≡ (if eqb machine i386 && starts underscore (now (base .entry)) then 2 else 1) ⌝ }
+{
+    if machine == IMAGE_FILE_MACHINE_I386 {
+        if starts_with(base, b'_') {
+            return ImportNameType::NameNoprefix;
+        }
+    }
+    ImportNameType::Name
+}
+
 // The type of an export that names no other, by its base and its name.
 pub fn get_name_type(base: &[u8], name: &[u8], machine: u16, mingw: bool) -> ImportNameType
     ensures { λ r. ⌜ typeNumber r ≡ plainType machine mingw (now (base .entry)) (now (name .entry)) ⌝ }
@@ -80,10 +94,15 @@ pub fn get_name_type(base: &[u8], name: &[u8], machine: u16, mingw: bool) -> Imp
     if !wire::same(base, name) {
         return ImportNameType::NameUndecorate;
     }
-    if machine == IMAGE_FILE_MACHINE_I386 {
-        if starts_with(base, b'_') {
-            return ImportNameType::NameNoprefix;
-        }
+    bare_type(base, machine)
+}
+
+// The same where the base is the name: nothing is compared.
+pub fn get_own_type(name: &[u8], machine: u16, mingw: bool) -> ImportNameType
+    ensures { λ r. ⌜ typeNumber r ≡ plainType machine mingw (now (name .entry)) (now (name .entry)) ⌝ }
+{
+    if decorated(name, mingw) {
+        return ImportNameType::Name;
     }
-    ImportNameType::Name
+    bare_type(name, machine)
 }

@@ -1,6 +1,6 @@
 -- Laws of choices and plans: each answer by the facts that lead to it.
 use Prim.Native.Nat.{ℕ}
-use mathlib.Core.Path.{_≡_, refl, sym, ap, _∙_}
+use mathlib.Core.Path.{_≡_, refl, sym, ap, ap₂, _∙_}
 use mathlib.Core.Bool.{Bool, true, false, _&&_, _||_, not}
 use mathlib.Core.Option.{Option, none, some, Option·getD, Option·none-ne-some}
 use mathlib.Core.List.{List, [], _∷_}
@@ -17,6 +17,7 @@ use Rattle.format.specs.Plan.{Plan, base, kind, ecCode, free, chooseImport, cho
 use Rattle.names.specs.Mangler.{manglingOf, demangledOf}
 use Rattle.names.specs.declared.mangler.Mangling.{Mangling}
 use Rattle.names.specs.declared.mangler.Mangling.the-variants as M
+use Rattle.lists.proofs.Records.{base-name, base-symbol}
 use Rattle.plans.specs.Shape.{sourceOf, otherImport, choiceOf, shaped}
 use Rattle.plans.specs.declared.Source.{Source}
 use Rattle.plans.specs.declared.Source.the-variants as S
@@ -179,9 +180,17 @@ public-some machine mingw e (x ∷ xs) h = refl
 pub gives-is : (s t w : Bytes) (r : Bool) → r ≡ same s w → s ≡ t → r ≡ same t w
 gives-is s t w r e q = rw (← q) e
 
-pub typed-plainly : (machine t : ℕ) (mingw : Bool) (s s′ n n′ : Bytes) → t ≡ plainType machine mingw s n → s ≡ s′ → n ≡ n′
-    → P.typed t [] ≡ P.typed (plainType machine mingw s′ n′) []
-typed-plainly machine t mingw s s′ n n′ e f g = rw (e, f, g)
+-- the type of an export that names no other: its base is its name, or its symbol_name
+module _ (machine : ℕ) (mingw : Bool) (b : Bytes) (k : ℕ) {t : ℕ} {n : Bytes} where
+  pub plain-own : t ≡ plainType machine mingw n n → n ≡ bytesAt b (fieldAt k 0) → absentAt b (fieldAt k 2) ≡ true
+      → t ≡ plainType machine mingw (base (exportAt b k)) (exportAt b k .name)
+  unfolding exportAt
+  plain-own p f a = p ∙ ap₂ (λ (x y : Bytes). plainType machine mingw x y) (f ∙ base-name b k a) f
+
+  pub plain-both : {s : Bytes} → t ≡ plainType machine mingw s n → s ≡ bytesAt b (fieldAt k 2) → n ≡ bytesAt b (fieldAt k 0) → absentAt b (fieldAt k 2) ≡ false
+      → t ≡ plainType machine mingw (base (exportAt b k)) (exportAt b k .name)
+  unfolding exportAt
+  plain-both p f g a = p ∙ ap₂ (λ (x y : Bytes). plainType machine mingw x y) (f ∙ base-symbol b k a) g
 
 pub mangled-by : {f g : Bool} (p x : Bytes) (t : ℕ) → g ≡ f → mangled f p t x ≡ mangled g p t x
 mangled-by p x t e = rw e

@@ -18,8 +18,8 @@ ghost use lib.Dec.{eqb};
 ghost use lib.ListN.{length};
 ghost use Rattle.wire.specs.Bytes.{Bytes, same};
 ghost use Rattle.format.specs.Exports.{Export, exportAt};
-ghost use Rattle.format.specs.Names.{apply};
-ghost use Rattle.format.specs.Plan.{typed, free, chooseImport, choose, mangled, planChoice, planPublic};
+ghost use Rattle.format.specs.Names.{apply, plainType};
+ghost use Rattle.format.specs.Plan.{typed, base, free, chooseImport, choose, mangled, planChoice, planPublic};
 ghost use Rattle.coff.specs.Import.{typeNumber};
 ghost use Rattle.lists.specs.Held.{Held};
 ghost use Rattle.plans.specs.Shape.{sourceOf, otherImport, choiceOf, shaped};
@@ -110,6 +110,23 @@ fn choose_import(machine: u16, public: &[u8], wanted: &[u8]) -> Choice
     choose_other(machine, public, wanted)
 }
 
+// The type of an export that names no other. Where it has no symbol_name its base is its name, and nothing is compared.
+fn plain_type(b: &[u8], k: u32, machine: u16, mingw: bool) -> ImportNameType
+    requires { ⌜ Held (now b) k ⌝ }
+    ensures { λ r. ⌜ typeNumber r ≡ plainType machine mingw (base (exportAt (now (b .entry)) k)) (exportAt (now (b .entry)) k .name) ⌝ }
+{
+    let name = record::string(b, k, record::NAME);
+    if record::absent(b, k, record::SYMBOL_NAME) {
+        return types::get_own_type(name, machine, mingw);
+    }
+    types::get_name_type(
+        record::string(b, k, record::SYMBOL_NAME),
+        name,
+        machine,
+        mingw,
+    )
+}
+
 // The choice of an export under its public name.
 fn choose(b: &[u8], k: u32, machine: u16, mingw: bool, public: &[u8]) -> Choice
     requires { ⌜ Held (now b) k ⌝ }
@@ -131,12 +148,7 @@ fn choose(b: &[u8], k: u32, machine: u16, mingw: bool, public: &[u8]) -> Choice
         return choose_import(machine, public, record::string(b, k, record::IMPORT_NAME));
     }
     Choice::Typed {
-        name_type: types::get_name_type(
-            record::base(b, k),
-            record::string(b, k, record::NAME),
-            machine,
-            mingw,
-        ),
+        name_type: plain_type(b, k, machine, mingw),
         export: Source::Nothing,
     }
 }

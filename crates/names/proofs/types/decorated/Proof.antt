@@ -20,4 +20,5 @@ returns-3 c =
     sym (three-by _ _ _ (sym (one .before .starts-with .ensures) ∙ not-false _ (one .if1 .left)) (sym (c .before .holds .ensures) ∙ not-false _ (c .if2 .left)))
 
 pub decorated-spec : {M : Type 1} → statement M
-decorated-spec = tie.close (tie.spec (λ c κs. search needs) returns (λ c κs. search needs) returns-2 returns-3)
+decorated-spec = tie.close
+    (tie.spec (λ c κs. search needs) returns (λ c κs. search needs) returns-2 returns-3)

@@ -1,0 +1,19 @@
+-- `plans::plain_type` meets its contract.
+use mathlib.Core.Path.{sym, ap, _∙_}
+use Rattle.lists.proofs.Records.{base-name, base-symbol}
+use Rattle.plans.proofs.Choices.{plain-own, plain-both}
+use borrow.Author.Needs.{needs}
+use Rattle.plans.proofs.plain_type.Statement.{statement}
+use Rattle.plans.proofs.plain_type.Tie as tie
+
+returns : tie.Need-returns
+returns c = plain-own _ _ _ _ (c .get-own-type .ensures) (c .before .before .before .string .ensures) (sym (c .before .before .absent .ensures) ∙ c .before .if1 .taken)
+
+returns-2 : tie.Need-returns-2
+returns-2 c = plain-both _ _ _ _ (c .get-name-type .ensures) (c .before .string2 .ensures) (c .before .before .before .before .string .ensures) (sym (c .before .before .before .absent .ensures) ∙ c .before .before .if1 .left)
+
+pub plain-type-spec : {M : Type 1} → statement M
+plain-type-spec =
+    tie.close
+    (tie.spec (λ c κs. search needs) (λ c κs. search needs) (λ c κs. search needs) returns (λ c κs. search needs)
+    (λ c κs. search needs) returns-2)
