@@ -20,4 +20,10 @@ uint64_t crepedum_write(const uint8_t *list, size_t list_len, uint32_t machine, 
    where the bytes are no member. */
 uint64_t crepedum_read(const uint8_t *member, size_t len, uint32_t *fields, size_t fields_len);
 
+/* Looks up where a symbol leads in list 1 or 2 of a member set: 0 not found (so in any other list), 1 nowhere, 2 by the ordinal in
+   fields[0], 3 by the name that starts at fields[0] in the set and has fields[1] bytes. Else the refusal's number times 2^32: 15
+   where fields_len is below 2, which is tested first, and 17 where the bytes are no member set, or 2^32 or more. Fields that an
+   answer does not use, all of them on a refusal, are unchanged. */
+uint64_t crepedum_lookup(const uint8_t *set, size_t set_len, uint32_t list, const uint8_t *symbol, size_t symbol_len, uint32_t *fields, size_t fields_len);
+
 #endif

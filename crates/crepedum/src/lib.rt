@@ -1,5 +1,6 @@
 // What programs in other languages call; include/crepedum.h declares it.
 pub mod reading; // reading.rt: the reader
+pub mod looking; // looking.rt: the lookup
 
 use format::Checked;
 use format::Written;

@@ -13,10 +13,10 @@ ghost use Rattle.crepedum.specs.Reading.{fieldCount, readWord, filled, r
 const FIELDS: usize = 11;
 
 // The refusal of fewer fields.
-const TOO_FEW: u64 = 15;
+pub const TOO_FEW: u64 = 15;
 
 // A refusal's number stands above 32 bits.
-const NUMBER: u64 = 4294967296;
+pub const NUMBER: u64 = 4294967296;
 
 // The name of a layout that has fewer.
 const NO_NAME: Span = Span {
@@ -35,7 +35,7 @@ fn bit(flag: bool) -> u32
 }
 
 // Puts all values into the first fields; those after them stay.
-fn put_all(fields: &mut [u32], values: &[u32])
+pub fn put_all(fields: &mut [u32], values: &[u32])
     requires { ⌜ length (now values) ≤ length (now fields) ⌝ }
     ensures { λ r. ⌜ now (fields .exit) ≡ now (values .entry) ++ drop (length (now (values .entry))) (now (fields .entry)) ⌝ }
 {

@@ -1,0 +1,50 @@
+-- `lookup::definer` meets its contract. The loop's invariant: the first that defines the symbol is the first from the i-th on.
+use Prim.Native.Nat.{_-_, _≤_}
+use mathlib.Core.Path.{_≡_, refl, sym, ap, _∙_}
+use native.Mathlib.Omega.{arith}
+use Rattle.names.specs.Search.{placeOf}
+use Rattle.lookup.specs.Numbered.{definerFrom}
+use Rattle.lookup.proofs.Numbering.{defines-at, definer-here, definer-later, definer-end}
+use borrow.Author.Needs.{needs}
+use Rattle.lookup.proofs.definer.Statement.{statement}
+use Rattle.lookup.proofs.definer.Tie as tie
+
+abbrev Inv-loop : tie.InvT-loop
+Inv-loop set from to symbol i₀ i = (from ≤ i) × (i ≤ to) × (definerFrom set symbol from (to - from) ≡ definerFrom set symbol i (to - i))
+
+abbrev μ-loop : tie.MeasureT-loop
+μ-loop set from to symbol i₀ i = to - i
+
+loop-holds : tie.Need-loop-holds Inv-loop μ-loop
+loop-holds c = (omega arith, c .before .before .pre .1 .0, refl)
+
+member-at-requires : tie.Need-member-at-requires Inv-loop μ-loop
+member-at-requires c κs = let p = c .before .before .before .before .pre in (p .0, omega (arith, c .loop-test .taken, p .1 .1))
+
+returns : tie.Need-returns Inv-loop μ-loop
+returns c =
+    let l = c .before .before .before .before .loop in
+    let d = defines-at _ _ _ (c .before .defines .ensures) (c .before .before .member-at .ensures .0) in
+    sym (ap placeOf (l .inv .2 ∙ definer-here _ _ (l .i) _ (c .before .before .before .loop-test .taken) (sym d ∙ c .if1 .taken)))
+
+add-i : tie.Need-add-i Inv-loop μ-loop
+add-i c = omega (arith, c .before .before .before .loop-test .taken)
+
+loop-less : tie.Need-loop-less Inv-loop μ-loop
+loop-less c = omega (arith, c .before .before .before .loop-test .taken)
+
+loop-again : tie.Need-loop-again Inv-loop μ-loop
+loop-again c =
+    let l = c .before .before .before .before .loop in
+    let d = defines-at _ _ _ (c .before .defines .ensures) (c .before .before .member-at .ensures .0) in
+    (omega (arith, l .inv .0), omega (arith, c .before .before .before .loop-test .taken), l .inv .2 ∙ definer-later _ _ (l .i) _ (c .before .before .before .loop-test .taken) (sym d ∙ c .if1 .left))
+
+returns-2 : tie.Need-returns-2 Inv-loop μ-loop
+returns-2 c =
+    let l = c .before .loop in
+    sym (ap placeOf (l .inv .2 ∙ definer-end _ _ (l .i) _ (c .loop-test .left)))
+
+pub definer-spec : {M : Type 1} → statement M
+definer-spec =
+    tie.close
+    (tie.spec Inv-loop μ-loop loop-holds member-at-requires (λ c κs. search needs) returns add-i loop-less loop-again returns-2)
