@@ -8,7 +8,8 @@ use oracle::list::{Record, encode_list};
 
 use crate::content::FIELDS;
 use crate::judge::Difference;
-use crate::{library, plain, reader, reads};
+use crate::looks::Question;
+use crate::{finder, library, looks, plain, reader, reads};
 
 const RUNS: usize = 21;
 const ALIASES: usize = 1000;
@@ -19,10 +20,14 @@ const OPTIONS: Options = Options {
     compat: false,
 };
 
+/// A name of 40 bytes.
+fn name(k: usize) -> String {
+    format!("att_display_horizon_step_number_{k:08}")
+}
+
 /// Exports with names of 40 bytes. The last ones are aliases, whose targets are spread over the others.
 fn measured_list(exports: usize, aliases: usize) -> Vec<u8> {
     let plain = exports - aliases;
-    let name = |k: usize| format!("att_display_horizon_step_number_{k:08}");
     let target = |k: usize| name((k - plain) * plain / aliases);
     let record = |k: usize| {
         if k < plain {
@@ -84,6 +89,13 @@ fn same_set(list: &[u8]) -> Result<(), Difference> {
     }
 }
 
+fn measured_set(exports: usize, aliases: usize) -> Vec<u8> {
+    let mut set = vec![0; ROOM];
+    let total = plain::write(&measured_list(exports, aliases), OPTIONS, &mut set);
+    set.truncate(total.expect("the measured list is taken"));
+    set
+}
+
 /// The median times in nanoseconds of reading each member once, by the library and by the plain reader.
 fn measure_reads(members: &[&[u8]]) -> [u128; 2] {
     let mut fields = [0; FIELDS];
@@ -112,10 +124,8 @@ fn bench_reads() -> Result<(), Difference> {
         "members", "bytes", "read, ns", "plain, ns", "read, MB/s", "plain, MB/s", "read / plain"
     );
     for aliases in [0, ALIASES] {
-        let mut set = vec![0; ROOM];
-        let total = plain::write(&measured_list(4096, aliases), OPTIONS, &mut set);
-        let total = total.expect("the measured list is taken");
-        let members = reads::members(&set[..total])?;
+        let set = measured_set(4096, aliases);
+        let members = reads::members(&set)?;
         for member in &members {
             reads::judge(member)?;
         }
@@ -129,6 +139,45 @@ fn bench_reads() -> Result<(), Difference> {
             speed(plain),
             read as f64 / plain as f64
         );
+    }
+    Ok(())
+}
+
+/// The median times in nanoseconds of looking one symbol up, which validates the set, by the library and by the plain lookup.
+fn measure_lookup(set: &[u8], symbol: &[u8]) -> [u128; 2] {
+    let mut fields = [0; looks::FIELDS];
+    let mut times = [const { Vec::new() }; 2];
+    for _ in 0..RUNS {
+        times[0].push(timed(|| {
+            let looked = library::lookup(black_box(set), 1, black_box(symbol), &mut fields);
+            black_box(&mut fields);
+            looked.is_ok()
+        }));
+        times[1].push(timed(|| {
+            black_box(finder::lookup(black_box(set), 1, black_box(symbol))).is_some()
+        }));
+    }
+    times.map(median)
+}
+
+/// Looking up the symbol of the last export, and one that is not there.
+fn bench_lookups() -> Result<(), Difference> {
+    println!(
+        "{:>8} {:>8} {:>8} {:>12} {:>12} {:>14} {:>14}",
+        "exports", "aliases", "symbol", "lookup, ns", "plain, ns", "ns an export", "lookup / plain"
+    );
+    for (exports, aliases) in [(512, 0), (1024, 0), (2048, 0), (4096, 0), (4096, ALIASES)] {
+        let set = measured_set(exports, aliases);
+        for (which, k) in [("last", exports - 1), ("none", exports)] {
+            let symbol = name(k).into_bytes();
+            Question::of(&set).judge(1, &symbol)?;
+            let [lookup, plain] = measure_lookup(&set, &symbol);
+            println!(
+                "{exports:>8} {aliases:>8} {which:>8} {lookup:>12} {plain:>12} {:>14.1} {:>14.2}",
+                lookup as f64 / exports as f64,
+                lookup as f64 / plain as f64
+            );
+        }
     }
     Ok(())
 }
@@ -148,5 +197,6 @@ pub fn bench() -> Result<String, Difference> {
         );
     }
     bench_reads()?;
+    bench_lookups()?;
     Ok(format!("names of 40 bytes, median of {RUNS}, AMD64"))
 }

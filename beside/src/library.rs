@@ -23,6 +23,16 @@ mod raw {
             fields: *mut u32,
             fields_len: usize,
         ) -> u64;
+
+        pub fn crepedum_lookup(
+            set: *const u8,
+            set_len: usize,
+            list: u32,
+            symbol: *const u8,
+            symbol_len: usize,
+            fields: *mut u32,
+            fields_len: usize,
+        ) -> u64;
     }
 }
 
@@ -68,6 +78,23 @@ pub fn read(member: &[u8], fields: &mut [u32]) -> Result<u32, Refusal> {
         raw::crepedum_read(
             member.as_ptr(),
             member.len(),
+            fields.as_mut_ptr(),
+            fields.len(),
+        )
+    };
+    refusal(word).map_or(Ok(word as u32), Err)
+}
+
+/// Looks a symbol up in a list of a member set and returns the answer's number, or the refusal's number and place.
+pub fn lookup(set: &[u8], list: u32, symbol: &[u8], fields: &mut [u32]) -> Result<u32, Refusal> {
+    // SAFETY: all pairs are those of slices, the last of one that nobody else holds.
+    let word = unsafe {
+        raw::crepedum_lookup(
+            set.as_ptr(),
+            set.len(),
+            list,
+            symbol.as_ptr(),
+            symbol.len(),
             fields.as_mut_ptr(),
             fields.len(),
         )

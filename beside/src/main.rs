@@ -1,15 +1,21 @@
 //! Runs the library beside the Rust, and measures it.
 
+mod asked;
 mod bench;
 mod changed;
 mod compare;
 mod content;
+mod damaged_sets;
 mod differences;
+mod finder;
 mod judge;
 mod layouts;
 mod library;
 mod limits;
+mod looks;
+mod lookups;
 mod member_limits;
+mod member_set;
 mod order;
 mod pe;
 mod plain;
@@ -24,6 +30,7 @@ usage: beside COMMAND
   compare COUNT SEED   generated lists: the sets and refusals are the Rust's, and members are read back
   damaged COUNT SEED   damaged lists: refusals come in the paper's order
   changed COUNT SEED   changed members: read where they are members still, else refused
+  lookup COUNT SEED    symbols of generated lists lead where their records ask, and damaged sets are refused
   limits               every limit, and one step beyond it
   layouts              the members are laid out as the PE Format document says
   differences          where the library does otherwise than the Rust, on purpose
@@ -40,6 +47,7 @@ fn main() -> ExitCode {
         (Some("compare"), Some((count, seed))) => compare::compare(count, seed),
         (Some("damaged"), Some((count, seed))) => compare::damaged(count, seed),
         (Some("changed"), Some((count, seed))) => changed::changed(count, seed),
+        (Some("lookup"), Some((count, seed))) => lookups::lookups(count, seed),
         (Some("limits"), None) => limits::limits(),
         (Some("layouts"), None) => layouts::layouts(),
         (Some("differences"), None) => differences::differences(),

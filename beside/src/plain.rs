@@ -141,14 +141,14 @@ fn replace_once(text: &[u8], from: &[u8], to: &[u8]) -> Option<Vec<u8>> {
     Some([&text[..at], to, &text[at + from.len()..]].concat())
 }
 
-fn replace(text: &[u8], from: &[u8], to: &[u8]) -> Option<Vec<u8>> {
+pub fn replace(text: &[u8], from: &[u8], to: &[u8]) -> Option<Vec<u8>> {
     replace_once(text, from, to).or_else(|| match (from, to) {
         ([b'_', from @ ..], [b'_', to @ ..]) => replace_once(text, from, to),
         _ => None,
     })
 }
 
-fn apply_name_type(name_type: u16, name: &[u8]) -> &[u8] {
+pub fn apply_name_type(name_type: u16, name: &[u8]) -> &[u8] {
     let trimmed = match name {
         [b'?' | b'@' | b'_', rest @ ..] => rest,
         name => name,
@@ -163,7 +163,7 @@ fn apply_name_type(name_type: u16, name: &[u8]) -> &[u8] {
     }
 }
 
-fn get_name_type(base: &[u8], name: &[u8], machine: u32, mingw: bool) -> u16 {
+pub fn get_name_type(base: &[u8], name: &[u8], machine: u32, mingw: bool) -> u16 {
     if name.starts_with(b"_") && name.contains(&b'@') && !mingw {
         NAME
     } else if base != name {
@@ -175,7 +175,7 @@ fn get_name_type(base: &[u8], name: &[u8], machine: u32, mingw: bool) -> u16 {
     }
 }
 
-fn demangled(name: &[u8]) -> Option<Vec<u8>> {
+pub fn demangled(name: &[u8]) -> Option<Vec<u8>> {
     if let [b'#', rest @ ..] = name {
         return Some(rest.to_vec());
     }

@@ -1,0 +1,179 @@
+//! What the records of a list ask for, and where each symbol of its exports is to lead.
+
+use oracle::Record;
+use oracle::ask::{ARM64EC, I386};
+use oracle::list::{CONSTANT, DATA, NONAME, PRIVATE};
+
+use crate::judge::same;
+use crate::member_set::{DATA_KIND, IMP, short_symbols};
+use crate::plain::{apply_name_type, demangled, get_name_type, replace};
+
+const ORDINAL: u16 = 0;
+const NAME: u16 = 1;
+const NOPREFIX: u16 = 2;
+const UNDECORATE: u16 = 3;
+const EXPORTAS: u16 = 4;
+const CODE_KIND: u16 = 0;
+const CONST_KIND: u16 = 2;
+
+/// Where a symbol is to lead: an entry of the DLL by its ordinal or its name, nowhere, or no member has it.
+#[derive(Clone, Debug, PartialEq)]
+pub enum Where {
+    NotFound,
+    Nowhere,
+    Ordinal(u32),
+    Name(Vec<u8>),
+}
+
+/// A symbol of an export, with where it is to lead.
+pub type Leading = (Vec<u8>, Where);
+
+/// What each list is made for.
+#[derive(Clone, Copy)]
+pub struct Maker {
+    pub machine: u32,
+    pub mingw: bool,
+}
+
+/// An export that is not private.
+struct Export<'a> {
+    maker: Maker,
+    record: &'a Record,
+    public: Vec<u8>,
+    /// None for one that waits for the keys of its list.
+    name_type: Option<u16>,
+}
+
+impl<'a> Export<'a> {
+    fn of(maker: Maker, record: &'a Record) -> Self {
+        let name = record.name.as_deref().expect("a record has a name");
+        let base = record.symbol_name.as_deref().unwrap_or(name);
+        let public = match &record.ext_name {
+            Some(ext_name) => replace(base, name, ext_name).expect("a written list is renamed"),
+            None => base.to_vec(),
+        };
+        let gives = |name_type, wanted: &[u8]| apply_name_type(name_type, &public) == wanted;
+        let name_type = match (&record.export_as, &record.import_name) {
+            _ if record.has(NONAME) => Some(ORDINAL),
+            (Some(_), _) => Some(EXPORTAS),
+            (None, Some(wanted)) => match maker.machine {
+                I386 if gives(UNDECORATE, wanted) => Some(UNDECORATE),
+                I386 if gives(NOPREFIX, wanted) => Some(NOPREFIX),
+                ARM64EC => Some(EXPORTAS),
+                _ => (public == *wanted).then_some(NAME),
+            },
+            (None, None) => Some(get_name_type(base, name, maker.machine, maker.mingw)),
+        };
+        Self {
+            maker,
+            record,
+            public,
+            name_type,
+        }
+    }
+
+    fn kind(&self) -> u16 {
+        match (self.record.has(CONSTANT), self.record.has(DATA)) {
+            (true, _) => CONST_KIND,
+            (false, true) => DATA_KIND,
+            _ => CODE_KIND,
+        }
+    }
+
+    fn is_hybrid_code(&self) -> bool {
+        self.maker.machine == ARM64EC && self.kind() == CODE_KIND
+    }
+
+    /// The symbol of its short import.
+    fn symbol(&self) -> Vec<u8> {
+        if self.is_hybrid_code() && !matches!(self.public[0], b'?' | b'#') {
+            return [b"#", &self.public[..]].concat();
+        }
+        self.public.clone()
+    }
+
+    fn asks(&self) -> Where {
+        let record = self.record;
+        if record.has(NONAME) {
+            return Where::Ordinal(record.ordinal.into());
+        }
+        if let Some(name) = record.export_as.as_ref().or(record.import_name.as_ref()) {
+            return Where::Name(name.clone());
+        }
+        if self.is_hybrid_code() {
+            return Where::Name(demangled(&self.symbol()).expect("a written list is demangled"));
+        }
+        let name_type = self.name_type.expect("only an import_name waits");
+        Where::Name(apply_name_type(name_type, &self.public).to_vec())
+    }
+
+    /// Whether it is a plain import that answers to a wanted name.
+    fn answers_to(&self, wanted: &[u8]) -> bool {
+        let gives = |name_type| apply_name_type(name_type, &self.symbol()) == wanted;
+        self.name_type.is_some_and(gives)
+    }
+
+    fn short_leadings(&self) -> Vec<Leading> {
+        let symbols = short_symbols(self.maker.machine, self.kind(), &self.symbol());
+        let lead = |symbol| (symbol, self.asks());
+        symbols.into_iter().map(lead).collect()
+    }
+
+    /// Of an alias: the public name with `__imp_`, and if code without, which leads nowhere where the import is data.
+    fn alias_leadings(&self, import: &Export<'_>) -> Vec<Leading> {
+        let mut leadings = vec![([IMP, &self.public].concat(), import.asks())];
+        if self.kind() == CODE_KIND {
+            let place = match import.kind() {
+                DATA_KIND => Where::Nowhere,
+                _ => import.asks(),
+            };
+            leadings.push((self.public.clone(), place));
+        }
+        leadings
+    }
+}
+
+/// What a written list asks for.
+pub struct Asked {
+    pub leadings: Vec<Leading>,
+    /// No public name begins with `__imp_`.
+    pub is_unprefixed: bool,
+}
+
+impl Asked {
+    pub fn of(maker: Maker, records: &[Record]) -> Self {
+        let exports = records.iter().filter(|record| !record.has(PRIVATE));
+        let exports: Vec<Export<'_>> = exports.map(|record| Export::of(maker, record)).collect();
+        let leadings = |export: &Export<'_>| {
+            let wanted = export.record.import_name.as_deref();
+            let waits = export.name_type.is_none();
+            let wanted = wanted.filter(|_| waits);
+            let answers = |wanted| exports.iter().rfind(|other| other.answers_to(wanted));
+            match wanted.and_then(answers) {
+                Some(import) => export.alias_leadings(import),
+                None => export.short_leadings(),
+            }
+        };
+        Self {
+            leadings: exports.iter().flat_map(leadings).collect(),
+            is_unprefixed: !exports.iter().any(|export| export.public.starts_with(IMP)),
+        }
+    }
+    /// Holds where a symbol leads to the list. Any symbol but the list's own is in no member; its own are in one, and lead where
+    /// their records ask if the list is kept: no two members define one symbol, and no public name begins with `__imp_`.
+    pub fn hold(&self, symbol: &[u8], found: &Where, is_kept: bool) -> Result<(), String> {
+        let own = self.leadings.iter().filter(|(own, _)| own == symbol);
+        let mut places = own.map(|(_, place)| place).peekable();
+        if places.peek().is_none() {
+            return same("a symbol of no export", &Where::NotFound, found);
+        }
+        if is_kept {
+            return places.try_for_each(|place| same("what the record asks for", place, found));
+        }
+        same(
+            "an export's symbol is found",
+            true,
+            *found != Where::NotFound,
+        )
+    }
+}
