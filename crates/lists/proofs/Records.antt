@@ -1,19 +1,22 @@
 -- Laws of a record's fields, by the places that code computes; and that a checked list holds its records.
 use Prim.Native.Nat.{ℕ, _+_, _*_, _/_, _%_, _≤_, _<_}
 use mathlib.Core.Path.{_≡_, refl, sym, ap, _∙_}
-use mathlib.Core.Bool.{Bool, true, false}
+use mathlib.Core.Bool.{Bool, true, false, not}
 use mathlib.Core.Option.{Option, none, some, Option·getD}
 use native.Mathlib.Omega.{arith}
-use lib.ListN.{length}
+use lib.ListN.{length, take, drop, length-drop}
+use lib.Seq.{drop-drop, take-all}
 use lib.Dec.{eqb}
 use borrow.Author.Tests.{eq-eqb, ne-eqb}
-use Rattle.wire.specs.Bytes.{Bytes, if_then_else_, u16At, u32At, part}
-use Rattle.format.specs.Exports.{namesAt, bothCounts, dllField, offsetOf, lengthOf, recordAt, fieldAt, absentAt, bytesAt, stringAt, exportAt}
+use Rattle.wire.specs.Bytes.{Bytes, if_then_else_, u16At, u32At, part, holds}
+use Rattle.wire.proofs.Bytes.{not-true, holds-take, holds-drop}
+use Rattle.format.specs.Exports.{namesAt, namesLength, bothCounts, dllField, offsetOf, lengthOf, recordAt, fieldAt, absentAt, bytesAt, stringAt, exportAt}
 use Rattle.format.specs.Plan.{base}
 use Rattle.format.specs.Refusals.{checkList}
+use Rattle.format.specs.Shaped.{Shaped}
 use Rattle.format.specs.declared.Checked.the-variants.{Fine}
 use Rattle.format.proofs.Listed.{Listed, listed, record-inside, names-inside, field-few, field-named, field-inside}
-use Rattle.lists.specs.Held.{Held}
+use Rattle.lists.specs.Held.{Held, isClean}
 
 -- ---- absent strings
 
@@ -24,6 +27,21 @@ absent-not b at n e h = rw (← e, ne-eqb n 0 h)
 pub absent-by : (b : Bytes) (at n o : ℕ) → n ≡ lengthOf b at → n ≡ 0 → o ≡ offsetOf b at → eqb o 0 ≡ absentAt b at
 unfolding absentAt
 absent-by b at n o e z f = rw (← e, ← f, eq-eqb n 0 z)
+
+-- ---- names without NUL
+
+-- what the names do not hold, no part of them holds
+pub clean-part : (b : Bytes) (from o n : ℕ) → true ≡ isClean b → from ≡ namesAt b + o → holds 0 (part b from n) ≡ false
+unfolding part
+clean-part b from o n c e =
+    let names = drop (namesAt b) b in
+    rw (e, ← drop-drop o (namesAt b) b) (holds-take 0 n (drop o names) (holds-drop 0 o names (not-true (holds 0 names) (sym c))))
+
+pub clean-names : (b : Bytes) (at n : ℕ) (r : Bool) → Shaped b → at ≡ namesAt b → n ≡ namesLength b → r ≡ holds 0 (part b at n) → not r ≡ isClean b
+unfolding part
+clean-names b at n r s e f h =
+    let long : length (drop (namesAt b) b) ≤ n = omega (arith, length-drop (namesAt b) b, s .ended) in
+    ap not (h ∙ ap (holds 0) (ap (λ (k : ℕ). take n (drop k b)) e ∙ take-all n (drop (namesAt b) b) long))
 
 -- ---- strings
 

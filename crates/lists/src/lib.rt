@@ -10,6 +10,7 @@ ghost use Rattle.wire.specs.Bytes.{u32At, u16At, part, holds, same};
 ghost use Rattle.format.specs.Exports.{bothCounts, recordAt};
 ghost use Rattle.format.specs.Refusals.{earliest, headerRows, stringRows, dllRows, fieldRows, recordRows, rowsFrom, restRows, checkList};
 ghost use Rattle.format.specs.Shaped.{Shaped};
+ghost use Rattle.lists.specs.Held.{isClean};
 
 // The sizes of the list's header and of a record, and the limits.
 pub const HEADER_SIZE: usize = 28;
@@ -50,10 +51,11 @@ fn held_in(b: &[u8], from: usize, n: usize, c: u8) -> bool
     wire::holds(wire::part(b, from, n), c)
 }
 
-// One string's checks 5 to 8. Its offset and length stand at `at`.
-fn check_string(b: &[u8], place: u32, at: usize, limit: u32, required: bool) -> Checked
+// One string's checks 5 to 8. Its offset and length stand at `at`. Where the names are clean, no string holds NUL.
+fn check_string(b: &[u8], place: u32, at: usize, limit: u32, required: bool, clean: bool) -> Checked
     requires { ⌜ Shaped (now b) ⌝ }
     requires { ⌜ at + 8 ≤ length (now b) ⌝ }
+    requires { ⌜ clean ≡ isClean (now b) ⌝ }
     ensures { λ r. ⌜ r ≡ earliest (stringRows (now (b .entry)) place at limit required) ⌝ }
 {
     let names = wire::u32_at(b, NAMES_AT) as usize;
@@ -75,6 +77,9 @@ fn check_string(b: &[u8], place: u32, at: usize, limit: u32, required: bool) -> 
     if (limit as usize) < len {
         return Checked::Refused { number: 7, place };
     }
+    if clean {
+        return Checked::Fine;
+    }
     if held_in(b, names + offset, len, 0) {
         return Checked::Refused { number: 8, place };
     }
@@ -82,9 +87,10 @@ fn check_string(b: &[u8], place: u32, at: usize, limit: u32, required: bool) -> 
 }
 
 // Checks 5 to 8 of one of a record's five strings; only the name is required.
-fn check_field(b: &[u8], k: u32, f: usize) -> Checked
+fn check_field(b: &[u8], k: u32, f: usize, clean: bool) -> Checked
     requires { ⌜ Shaped (now b) ⌝ }
     requires { ⌜ (k < bothCounts (now b)) × (f < 5) ⌝ }
+    requires { ⌜ clean ≡ isClean (now b) ⌝ }
     ensures { λ r. ⌜ r ≡ earliest (fieldRows (now (b .entry)) k f) ⌝ }
 {
     check_string(
@@ -93,18 +99,20 @@ fn check_field(b: &[u8], k: u32, f: usize) -> Checked
         HEADER_SIZE + RECORD_SIZE * (k as usize) + 8 * f,
         MAX_STRING,
         f == 0,
+        clean,
     )
 }
 
 // Checks 5 to 8 of a record's strings, in field order.
-fn check_fields(b: &[u8], k: u32) -> Checked
+fn check_fields(b: &[u8], k: u32, clean: bool) -> Checked
     requires { ⌜ Shaped (now b) ⌝ }
     requires { ⌜ k < bothCounts (now b) ⌝ }
+    requires { ⌜ clean ≡ isClean (now b) ⌝ }
     ensures { λ r. ⌜ r ≡ earliest (rowsFrom (fieldRows (now (b .entry)) k) 0 5) ⌝ }
 {
     let mut f = 0;
     while f < STRINGS {
-        let checked = check_field(b, k, f);
+        let checked = check_field(b, k, f, clean);
         if let Checked::Refused { number, place } = checked {
             return Checked::Refused { number, place };
         }
@@ -114,9 +122,10 @@ fn check_fields(b: &[u8], k: u32) -> Checked
 }
 
 // Check 9 of a record, then those of its strings.
-fn check_record(b: &[u8], k: u32) -> Checked
+fn check_record(b: &[u8], k: u32, clean: bool) -> Checked
     requires { ⌜ Shaped (now b) ⌝ }
     requires { ⌜ k < bothCounts (now b) ⌝ }
+    requires { ⌜ clean ≡ isClean (now b) ⌝ }
     ensures { λ r. ⌜ r ≡ earliest (recordRows (now (b .entry)) k) ⌝ }
 {
     if ALL_FLAGS < wire::u16_at(b, HEADER_SIZE + RECORD_SIZE * (k as usize) + FLAGS_AT) {
@@ -125,18 +134,19 @@ fn check_record(b: &[u8], k: u32) -> Checked
             place: k,
         };
     }
-    check_fields(b, k)
+    check_fields(b, k, clean)
 }
 
 // The checks of every record, in order.
-fn check_records(b: &[u8], count: u32) -> Checked
+fn check_records(b: &[u8], count: u32, clean: bool) -> Checked
     requires { ⌜ Shaped (now b) ⌝ }
     requires { ⌜ count ≡ bothCounts (now b) ⌝ }
+    requires { ⌜ clean ≡ isClean (now b) ⌝ }
     ensures { λ r. ⌜ r ≡ earliest (rowsFrom (recordRows (now (b .entry))) 0 count) ⌝ }
 {
     let mut k = 0;
     while k < count {
-        let checked = check_record(b, k);
+        let checked = check_record(b, k, clean);
         if let Checked::Refused { number, place } = checked {
             return Checked::Refused { number, place };
         }
@@ -193,11 +203,12 @@ fn check_header(b: &[u8]) -> Checked
 }
 
 // Checks 5 to 8 and 10 of the DLL name.
-fn check_dll(b: &[u8]) -> Checked
+fn check_dll(b: &[u8], clean: bool) -> Checked
     requires { ⌜ Shaped (now b) ⌝ }
+    requires { ⌜ clean ≡ isClean (now b) ⌝ }
     ensures { λ r. ⌜ r ≡ earliest (dllRows (now (b .entry))) ⌝ }
 {
-    let checked = check_string(b, 0, DLL_FIELD, MAX_DLL, true);
+    let checked = check_string(b, 0, DLL_FIELD, MAX_DLL, true, clean);
     if let Checked::Refused { number, place } = checked {
         return Checked::Refused { number, place };
     }
@@ -212,18 +223,30 @@ fn check_dll(b: &[u8]) -> Checked
     Checked::Fine
 }
 
+// Whether the names hold no NUL, so that no string does.
+fn is_clean(b: &[u8]) -> bool
+    requires { ⌜ Shaped (now b) ⌝ }
+    ensures { λ r. ⌜ r ≡ isClean (now (b .entry)) ⌝ }
+{
+    let names = wire::u32_at(b, NAMES_AT) as usize;
+    let total = wire::u32_at(b, NAMES_LENGTH) as usize;
+    !held_in(b, names, total, 0)
+}
+
 // Refusals 5 to 10 of a list whose header is right.
 fn check_rest(b: &[u8]) -> Checked
     requires { ⌜ Shaped (now b) ⌝ }
     ensures { λ r. ⌜ r ≡ earliest (restRows (now (b .entry))) ⌝ }
 {
-    let dll = check_dll(b);
+    let clean = is_clean(b);
+    let dll = check_dll(b, clean);
     if let Checked::Refused { number, place } = dll {
         return Checked::Refused { number, place };
     }
     check_records(
         b,
         wire::u32_at(b, FIRST_COUNT) + wire::u32_at(b, NATIVE_COUNT),
+        clean,
     )
 }
 

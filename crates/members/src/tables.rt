@@ -30,7 +30,7 @@ pub fn put_string(out: &mut [u8], at: usize, s: &[u8]) -> usize
     ensures { λ r. ⌜ Strings (now (out .entry)) at (now (s .entry) ∷ []) (now (out .exit)) r ⌝ }
 {
     let a = wire::put(out, at, s);
-    wire::put_zeros(out, a, NUL)
+    wire::put_u8(out, a, 0)
 }
 
 // A string of two pieces.

@@ -6,11 +6,13 @@ use mathlib.Core.Option.{Option, none, some, Option·getD}
 use mathlib.Core.List.{List, [], _∷_}
 use native.Mathlib.Omega.{arith}
 use lib.ListN.{length}
+use borrow.Author.Tests.{ne-eqb}
 use Rattle.wire.specs.Bytes.{Bytes, if_then_else_}
 use Rattle.wire.proofs.Bytes.{length-part}
+use Rattle.format.specs.Machines.{arm64ec}
 use Rattle.format.specs.Exports.{Export, namesAt, offsetOf, lengthOf, fieldAt, absentAt, bytesAt, stringAt, isPrivate, exportAt}
 use Rattle.format.specs.Names.{replace}
-use Rattle.format.specs.Plan.{Plan, plain, deferred, refused, base, renamed, publicName, planPublic, plan}
+use Rattle.format.specs.Plan.{Plan, plain, deferred, refused, Choice, typed, later, base, renamed, publicName, choose, planChoice, planPublic, plan}
 use Rattle.format.specs.Refusals.{row, earliest, planRows, nameRows}
 use Rattle.format.specs.declared.Checked.{Checked}
 use Rattle.format.specs.declared.Checked.the-variants.{Fine, Refused}
@@ -60,6 +62,16 @@ module _ (machine : ℕ) (mingw : Bool) (b : Bytes) (k : ℕ) where
   pub names-11 : isPrivate (exportAt b k) ≡ false → publicName (exportAt b k) ≡ none → Refused 11 k ≡ earliest (nameRows machine mingw b k)
   unfolding planRows earliest planPublic
   names-11 h e = names-by none h e
+
+-- off ARM64EC a public name that is not empty is not refused
+pub rows-native : (k machine : ℕ) (mingw : Bool) (e : Export) (p : Bytes) → (machine ≡ arm64ec → ⊥) → (length p ≡ 0 → ⊥) → Fine ≡ earliest (planRows k (planPublic machine mingw e (some p)))
+unfolding planPublic planChoice planRows earliest
+rows-native k machine mingw e [] m h = absurd (h refl)
+rows-native k machine mingw e (c ∷ cs) m h = pick (choose machine mingw e (c ∷ cs))
+  where
+    pick : (q : Choice) → Fine ≡ earliest (planRows k (planChoice machine e (c ∷ cs) q))
+    pick (later w) = refl
+    pick (typed t x) = rw (ne-eqb machine arm64ec m)
 
 -- a plan's refusal, by what its shape is
 pub rows-short : (k : ℕ) (e : Export) (p : Bytes) (q : Plan) (h : Bool) (t : _) (s : _) → shaped e p (H.Short h t s) ≡ q → Fine ≡ earliest (planRows k q)

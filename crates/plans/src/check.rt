@@ -1,6 +1,7 @@
 // Refusals 11 to 14: record by record, private ones skipped; the first fault answers.
 use crate::Shape;
 use crate::plan;
+use coff::constants::IMAGE_FILE_MACHINE_ARM64EC;
 use coff::machines;
 use coff::machines::Found;
 use coff::machines::Machine;
@@ -18,11 +19,14 @@ ghost use Rattle.format.specs.declared.Checked.the-variants.{Fine};
 ghost use Rattle.coff.specs.Machines.{IsMachine};
 ghost use Rattle.lists.specs.Held.{Held};
 
-// The refusal of a record under its public name.
+// The refusal of a record under its public name; off ARM64EC only an empty one is refused, and nothing is planned.
 fn check_named(b: &[u8], k: u32, machine: u16, mingw: bool, public: &[u8]) -> Checked
     requires { ⌜ Held (now b) k ⌝ }
     ensures { λ r. ⌜ r ≡ earliest (planRows k (planPublic machine mingw (exportAt (now (b .entry)) k) (some (now (public .entry))))) ⌝ }
 {
+    if machine != IMAGE_FILE_MACHINE_ARM64EC && public.len() != 0 {
+        return Checked::Fine;
+    }
     match plan(b, k, machine, mingw, public) {
         Shape::Short {
             hashed: _,

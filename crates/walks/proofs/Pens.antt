@@ -66,6 +66,15 @@ drew-empty {l} {entry} {at} m e z p q =
       next = q ∙ ap (λ (k : ℕ). at + k) (e ∙ ap length (sym (append-nil (encode m))));
     }
 
+-- and of two members of one size nothing is laid alike
+pub drew-sized : {l l′ : Bytes} {entry at entry′ at′ : ℕ} {m n : Member} → length l ≡ 0 → length (encode m) ≡ length (encode n) → Drew l entry at (m ∷ []) l′ entry′ at′
+    → Drew l entry at (n ∷ []) l′ entry′ at′
+unfolding join
+drew-sized {l} {l′} {entry} {at} {entry′} {at′} {m} {n} z e d =
+    let unmoved : l′ ≡ l = d .bytes ∙ over-out entry _ (over at (encode m ++ []) l) (omega (arith, length-over at (encode m ++ []) l)) ∙ over-out at _ l (omega arith) in
+    let moved : at′ ≡ at + length (encode n) = d .next ∙ ap (λ (k : ℕ). at + k) (ap length (append-nil (encode m)) ∙ e) in
+    rw unmoved (drew-empty n refl z (d .entries) moved)
+
 pub drew-more : {l l₁ l₂ : Bytes} {entry at entry₁ at₁ entry₂ at₂ : ℕ} {ms ns : List Member} → entry + entrySize * length ms ≤ at
     → Drew l entry at ms l₁ entry₁ at₁ → Drew l₁ entry₁ at₁ ns l₂ entry₂ at₂ → Drew l entry at (ms ++ ns) l₂ entry₂ at₂
 drew-more {l} {l₁} {l₂} {entry} {at} {entry₁} {at₁} {entry₂} {at₂} {ms} {ns} apart p q =
@@ -118,6 +127,11 @@ module _ {entry at : ℕ} (ms ns : List Member) (room : Room entry at (ms ++ ns)
 pub room-one : {entry at size : ℕ} {m : Member} → Room entry at (m ∷ []) → size ≡ length (encode m) → (entry + 8 ≤ at) × (at + size < 4294967296)
 unfolding join
 room-one {entry} {at} {size} {m} r e = (omega (arith, r .apart), omega (arith, r .small, e, ap length (append-nil (encode m))))
+
+pub room-sized : {entry at : ℕ} {m n : Member} → length (encode m) ≡ length (encode n) → Room entry at (m ∷ []) → Room entry at (n ∷ [])
+unfolding join
+room-sized {m = m} {n} e r =
+    record { apart = r .apart; small = omega (arith, r .small, e, ap length (append-nil (encode m)), ap length (append-nil (encode n))) }
 
 pub room-as : {entry at : ℕ} {ms ns : List Member} → ms ≡ ns → Room entry at ms → Room entry at ns
 room-as e r = rw (← e) r

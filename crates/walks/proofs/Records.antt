@@ -1,22 +1,24 @@
 -- What is written of a record, by what the functions are told; and the records of a list, one after another.
 use Prim.Native.Nat.{ℕ, zero, suc, _+_, _-_, _≤_, _<_}
 use mathlib.Core.Path.{_≡_, refl, sym, ap, ap₂, _∙_}
-use mathlib.Core.Bool.{Bool, true, false, _||_, not}
+use mathlib.Core.Bool.{Bool, true, false, _&&_, _||_, not}
 use mathlib.Core.Option.{Option, none, some, Option·getD, Option·map}
 use mathlib.Core.List.{List, [], _∷_, _++_, map, append-nil, append-assoc, map-append}
 use native.Mathlib.Nat.{add-zero}
 use native.Mathlib.Omega.{arith}
 use lib.Dec.{eqb}
 use lib.ListN.{length}
-use borrow.Author.Tests.{eq-eqb, ne-eqb}
-use Rattle.wire.specs.Bytes.{Bytes, if_then_else_, starts, join, isSome}
+use borrow.Author.Tests.{eq-eqb, ne-eqb, eqb-false}
+use Rattle.wire.specs.Bytes.{Bytes, if_then_else_, same, starts, holds, join, isSome}
+use Rattle.wire.proofs.Bytes.{and-each, not-true}
 use Rattle.format.specs.Machines.{i386, arm64ec}
-use Rattle.format.specs.Names.{hash, question, apply, replace, tagged, demangle}
-use Rattle.format.specs.Exports.{Export, fieldAt, absentAt, bytesAt, isPrivate, noname, exportAt, exportsFrom}
+use Rattle.format.specs.Names.{hash, question, underscore, at-sign, apply, plainType, replace, tagged, demangle}
+use Rattle.format.specs.Exports.{Export, fieldAt, absentAt, bytesAt, stringAt, isPrivate, noname, exportAt, exportsFrom}
 use Rattle.format.specs.Plan as P
 use Rattle.format.specs.Plan.{Plan, Choice, base, kind, publicName, free, ecCode, choose, chooseNamed, chooseImport, exporting, mangled, planChoice, planPublic, plan}
-use Rattle.format.specs.Layouts.{Member}
+use Rattle.format.specs.Layouts.{Member, short, encode}
 use Rattle.format.specs.Library.{answersTo, final, lastAnswering, shortMember, aliasMembers, aliasOrShort, deferredMember, shorts, deferreds, membersOf}
+use Rattle.laws.proofs.Lengths.{length-encode-short}
 use Rattle.laws.proofs.Names.{At}
 use Rattle.laws.proofs.Demand3.{answers-is, plain-public}
 use Rattle.coff.specs.Import.{typeNumber}
@@ -30,13 +32,13 @@ use Rattle.plans.specs.Shape.{sourceOf, shaped}
 use Rattle.plans.specs.Keys.{keyAt, lastIn}
 use Rattle.plans.specs.declared.Shape.{Shape}
 use Rattle.plans.specs.declared.Shape.the-variants as H
-use Rattle.plans.proofs.Choices.{string-none}
+use Rattle.plans.proofs.Choices.{string-none, string-some}
 use Rattle.plans.proofs.Publics.{public-base, public-renamed}
 use Rattle.plans.proofs.Answering.{last-answering-in}
 use Rattle.members.proofs.Runs.{join-append}
 use Rattle.walks.specs.Pen.{Room, Drew}
-use Rattle.walks.specs.Walk.{importOf, drawn, membersAt, membersIn, recordMembers, passMembers}
-use Rattle.walks.proofs.Pens.{room-as, room-first, room-next, drew-as, drew-more}
+use Rattle.walks.specs.Walk.{importOf, direct, drawn, membersAt, membersIn, recordMembers, passMembers}
+use Rattle.walks.proofs.Pens.{room-as, room-sized, room-first, room-next, drew-as, drew-sized, drew-more}
 use Rattle.walks.proofs.Imports.{string-getD}
 
 -- ---- the import that an alias leads to
@@ -200,6 +202,103 @@ deferred-native machine mingw e p h m =
     let no : isDeferred (planPublic arm64ec mingw e (some p)) ≡ true = ap isDeferred (sym (rw m at h)) in
     let both : true ≡ false = sym no ∙ deferred-ec e mingw p in
     let z : _≡_ {A = ℕ} 0 1 = cc in absurd (omega arith)
+
+-- ---- a record whose import is written at once and without an export string
+
+pub record Direct (machine : ℕ) (mingw : Bool) (e : Export) (p : Bytes) : Type 0 where
+  pub type : ℕ
+  pub other : type ≡ 4 → ⊥
+  pub planned : planPublic machine mingw e (some p) ≡ P.plain p type []
+
+plain-type-small : (machine : ℕ) (mingw : Bool) (s n : Bytes) → plainType machine mingw s n ≡ 4 → ⊥
+unfolding plainType
+plain-type-small machine mingw s n = pick (starts underscore n && holds at-sign n && not mingw) (not (same s n)) (eqb machine i386 && starts underscore s)
+  where
+    pick : (a b c : Bool) → _≡_ {A = ℕ} (if a then 1 else if b then 3 else if c then 2 else 1) 4 → ⊥
+    pick true b c h = omega arith
+    pick false true c h = omega arith
+    pick false false true h = omega arith
+    pick false false false h = omega arith
+
+some-none : (o : Option Bytes) → not (isSome o) ≡ true → o ≡ none
+unfolding isSome
+some-none none h = refl
+some-none (some x) h = let z : _≡_ {A = ℕ} 0 1 = cc in absurd (omega arith)
+
+chosen-direct : (machine : ℕ) (mingw : Bool) (e : Export) (c : ℕ) (cs : Bytes) → eqb machine arm64ec ≡ false → e .exportAs ≡ none → e .importName ≡ none
+    → (n : Bool) → noname e ≡ n → Direct machine mingw e (c ∷ cs)
+unfolding planPublic choose chooseNamed planChoice
+chosen-direct machine mingw e c cs a x i true n = record { type = 0; other = λ z. omega arith; planned = rw (n, a) }
+chosen-direct machine mingw e c cs a x i false n =
+    record { type = plainType machine mingw (base e) (e .name); other = plain-type-small machine mingw (base e) (e .name); planned = rw (n, x, i, a) }
+
+public-direct : (machine : ℕ) (mingw : Bool) (e : Export) (p : Bytes) → (length p ≡ 0 → ⊥) → eqb machine arm64ec ≡ false → e .exportAs ≡ none → e .importName ≡ none
+    → Direct machine mingw e p
+public-direct machine mingw e [] full a x i = absurd (full refl)
+public-direct machine mingw e (c ∷ cs) full a x i = chosen-direct machine mingw e c cs a x i (noname e) refl
+
+pub direct-plan : (machine : ℕ) (mingw : Bool) (e : Export) (p : Bytes) → direct machine e p ≡ true → Direct machine mingw e p
+unfolding direct
+direct-plan machine mingw e p h =
+    let tests : List Bool = not (eqb (length p) 0) ∷ not (isSome (e .exportAs)) ∷ not (isSome (e .importName)) ∷ [] in
+    let (native, (full, (exported, imported))) = and-each (not (eqb machine arm64ec)) tests h in
+    public-direct machine mingw e p (eqb-false (length p) 0 (not-true _ full)) (not-true _ native) (some-none (e .exportAs) exported) (some-none (e .importName) imported)
+
+-- what the test of a record is told
+module _ (machine : ℕ) (b : Bytes) (k : ℕ) (p : Bytes) where
+  pub direct-ec : machine ≡ arm64ec → false ≡ direct machine (exportAt b k) p
+  unfolding direct
+  direct-ec m = rw (eq-eqb machine arm64ec m)
+
+  module _ (m : machine ≡ arm64ec → ⊥) where
+    pub direct-empty : length p ≡ 0 → false ≡ direct machine (exportAt b k) p
+    unfolding direct
+    direct-empty z = rw (ne-eqb machine arm64ec m, z)
+
+    module _ (full : length p ≡ 0 → ⊥) where
+      pub direct-exported : absentAt b (fieldAt k 4) ≡ false → false ≡ direct machine (exportAt b k) p
+      unfolding direct exportAt isSome
+      direct-exported a = rw (ne-eqb machine arm64ec m, ne-eqb (length p) 0 full, string-some b (fieldAt k 4) a)
+
+      pub direct-is : absentAt b (fieldAt k 4) ≡ true → {r : Bool} → r ≡ absentAt b (fieldAt k 3) → r ≡ direct machine (exportAt b k) p
+      unfolding direct exportAt isSome
+      direct-is a {r} e = rw (ne-eqb machine arm64ec m, ne-eqb (length p) 0 full, string-none b (fieldAt k 4) a) (e ∙ pick (absentAt b (fieldAt k 3)) refl)
+        where
+          pick : (t : Bool) → absentAt b (fieldAt k 3) ≡ t → t ≡ not (isSome (stringAt b (fieldAt k 3)))
+          pick true h = rw (string-none b (fieldAt k 3) h)
+          pick false h = rw (string-some b (fieldAt k 3) h)
+
+-- its size, whatever its type
+direct-sized : (m o k t : ℕ) (s dll : Bytes) → (t ≡ 4 → ⊥) → length (encode (short m o k 1 s dll [])) ≡ length (encode (short m o k t s dll []))
+direct-sized m o k t s dll n =
+    let other : eqb t 4 ≡ false = ne-eqb t 4 n in
+    length-encode-short m o k 1 s dll [] ∙ sym (rw other at (length-encode-short m o k t s dll []))
+
+module _ (machine : ℕ) (mingw : Bool) (dll : Bytes) (es : List Export) (e : Export) (p : Bytes) (h : direct machine e p ≡ true) where
+  the-plan : Direct machine mingw e p
+  the-plan = direct-plan machine mingw e p h
+
+  abbrev the-import : ℕ → Member
+  the-import t = importOf machine e t p dll []
+
+  now-is : the-import (the-plan .type) ∷ [] ≡ drawn false machine mingw dll es e (planPublic machine mingw e (some p))
+  unfolding shortMember
+  now-is = rw (the-plan .planned)
+
+  sized : length (encode (the-import 1)) ≡ length (encode (the-import (the-plan .type)))
+  sized = direct-sized machine (e .ordinal) (kind e) (the-plan .type) p dll (the-plan .other)
+
+  pub direct-later : {later : Bool} → later ≡ true → [] ≡ drawn later machine mingw dll es e (planPublic machine mingw e (some p))
+  unfolding deferredMember
+  direct-later l = rw (l, the-plan .planned)
+
+  pub direct-room : {later : Bool} {entry at : ℕ} → later ≡ false → Room entry at (drawn later machine mingw dll es e (planPublic machine mingw e (some p)))
+      → Room entry at (importOf machine e 1 p dll [] ∷ [])
+  direct-room l r = room-sized (sym sized) (room-as (sym now-is) (rw l at r))
+
+  pub direct-drew : {later : Bool} {l l′ : Bytes} {entry at entry′ at′ : ℕ} → later ≡ false → length l ≡ 0 → Drew l entry at (importOf machine e 1 p dll [] ∷ []) l′ entry′ at′
+      → Drew l entry at (drawn later machine mingw dll es e (planPublic machine mingw e (some p))) l′ entry′ at′
+  direct-drew q z d = rw q (drew-as now-is (drew-sized z sized d))
 
 -- ---- a record under its public name
 

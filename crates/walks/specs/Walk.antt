@@ -1,8 +1,11 @@
 -- The members of one record, and of a run of records.
 use Prim.Native.Nat.{ℕ}
-use mathlib.Core.Bool.{Bool}
+use mathlib.Core.Bool.{Bool, _&&_, not}
 use mathlib.Core.List.{List, [], map}
-use Rattle.wire.specs.Bytes.{Bytes, if_then_else_, join}
+use lib.Dec.{eqb}
+use lib.ListN.{length}
+use Rattle.wire.specs.Bytes.{Bytes, if_then_else_, join, isSome}
+use Rattle.format.specs.Machines.{arm64ec}
 use Rattle.format.specs.Exports.{Export, isPrivate, exportAt, exportsFrom}
 use Rattle.format.specs.Plan.{Plan, kind, plan}
 use Rattle.format.specs.Layouts.{Member, short}
@@ -11,6 +14,11 @@ use Rattle.format.specs.Library.{shortMember, deferredMember}
 -- an export's short import
 abbrev pub importOf : ℕ → Export → ℕ → Bytes → Bytes → Bytes → Member
 importOf machine e t s dll x = short machine (e .ordinal) (kind e) t s dll x
+
+-- an export whose import is written at once and without an export string, whatever its type: neither a code import of ARM64EC nor refused
+unfoldable pub direct : ℕ → Export → Bytes → Bool
+direct machine e public =
+    not (eqb machine arm64ec) && not (eqb (length public) 0) && not (isSome (e .exportAs)) && not (isSome (e .importName))
 
 -- what is written of an export under a plan: at once, or later, where it is deferred
 abbrev pub drawn : Bool → ℕ → Bool → Bytes → List Export → Export → Plan → List Member

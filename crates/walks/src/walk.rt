@@ -1,6 +1,7 @@
 // The walk over one list: each record's short import, and after all of them what was deferred.
 use crate::pen::draw_short;
 use crate::pen::draw_weak;
+use coff::constants::IMAGE_FILE_MACHINE_ARM64EC;
 use coff::import::ImportNameType;
 use coff::import::ImportType;
 use lists::record;
@@ -29,7 +30,7 @@ ghost use Rattle.coff.specs.Import.{kindNumber, typeNumber};
 ghost use Rattle.lists.specs.Held.{Held};
 ghost use Rattle.plans.specs.Shape.{sourceOf};
 ghost use Rattle.walks.specs.Pen.{entryOf, atOf, Room, Drew};
-ghost use Rattle.walks.specs.Walk.{importOf, drawn, recordMembers, passMembers};
+ghost use Rattle.walks.specs.Walk.{importOf, direct, drawn, recordMembers, passMembers};
 
 // A record's short import; its export string is given in two pieces.
 fn draw_import(
@@ -304,6 +305,24 @@ fn draw_deferred(
     }
 }
 
+// Whether the import of a record under its public name is written at once and without an export string, whatever its type: its size
+// needs no plan.
+fn is_direct(b: &[u8], k: u32, machine: u16, public: &[u8]) -> bool
+    requires { ⌜ Held (now b) k ⌝ }
+    ensures { λ r. ⌜ r ≡ direct machine (exportAt (now (b .entry)) k) (now (public .entry)) ⌝ }
+{
+    if machine == IMAGE_FILE_MACHINE_ARM64EC {
+        return false;
+    }
+    if public.len() == 0 {
+        return false;
+    }
+    if !record::absent(b, k, record::EXPORT_AS) {
+        return false;
+    }
+    record::absent(b, k, record::IMPORT_NAME)
+}
+
 // What is written of a record under its public name, at once or later.
 fn draw_named(
     out: &mut [u8],
@@ -325,6 +344,23 @@ fn draw_named(
     requires { ⌜ (length (now dll) ≤ 255) × (length (now public) ≤ 8189) ⌝ }
     ensures { λ r. ⌜ Drew (now (out .entry)) (entryOf pen) (atOf pen) (drawn later machine mingw (now (dll .entry)) (exportsFrom (now (b .entry)) from (to - from)) (exportAt (now (b .entry)) k) (planPublic machine mingw (exportAt (now (b .entry)) k) (some (now (public .entry))))) (now (out .exit)) (entryOf r) (atOf r) ⌝ }
 {
+    if out.len() == 0 && is_direct(b, k, machine, public) {
+        if later {
+            return pen;
+        }
+        return draw_import(
+            out,
+            pen,
+            b,
+            k,
+            public,
+            dll,
+            ImportNameType::Name,
+            b"",
+            b"",
+            machine,
+        );
+    }
     match plan(b, k, machine, mingw, public) {
         Shape::Short {
             hashed,

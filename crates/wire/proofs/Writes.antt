@@ -144,11 +144,14 @@ wrote-four l at x y z w h =
 pub wrote-start : (l : Bytes) (at : ℕ) → Wrote l at [] l (at + 0)
 wrote-start l at = record { bytes = sym (over-nil at l); next = omega arith }
 
+pub wrote-byte : {l l₁ l₂ : Bytes} {at r s : ℕ} (b : Bytes) (i v : ℕ) → i < length b → getD b i 0 ≡ v → Wrote l at (take i b) l₁ r → Wrote l₁ r (v ∷ []) l₂ s
+    → Wrote l at (take (i + 1) b) l₂ s
+wrote-byte b i v h e w x =
+    wrote-as (ap (λ (x : ℕ). take i b ++ x ∷ []) (sym e) ∙ sym (take-suc b i 0 h) ∙ ap (λ (n : ℕ). take n b) (sym (add-one i))) (w ⨾ x)
+
 pub wrote-more : {l l′ : Bytes} {at : ℕ} (b : Bytes) (i v : ℕ) → i < length b → at + i < length l → getD b i 0 ≡ v
     → Wrote l at (take i b) l′ (at + i) → Wrote l at (take (i + 1) b) (set l′ (at + i) v) (at + (i + 1))
-wrote-more {l} {l′} {at} b i v h k e w =
-    wrote-as (ap (λ (x : ℕ). take i b ++ x ∷ []) (sym e) ∙ sym (take-suc b i 0 h) ∙ ap (λ (n : ℕ). take n b) (sym (add-one i)))
-    (w ⨾ wrote-one l′ (at + i) v (omega (arith, wrote-length w)) (omega arith))
+wrote-more {l} {l′} {at} b i v h k e w = wrote-byte b i v h e w (wrote-one l′ (at + i) v (omega (arith, wrote-length w)) (omega arith))
 
 pub wrote-end : {l l′ : Bytes} {at r : ℕ} (b : Bytes) (n : ℕ) → n ≡ min (length b) (length l - at) → Wrote l at (take n b) l′ r → Wrote l at b l′ r
 wrote-end {l} {l′} {at} {r} b n e w = side (decLe (length b) n)

@@ -221,17 +221,43 @@ pub fn put_u8(out: &mut [u8], at: usize, v: u8) -> usize
     at
 }
 
-// Writes all of src, as far as out goes, and nothing else. Returns the next place.
-pub fn put(out: &mut [u8], at: usize, src: &[u8]) -> usize
+// Writes all of src, which goes in, and nothing else. Returns the next place.
+fn put_whole(out: &mut [u8], at: usize, src: &[u8]) -> usize
+    requires { ⌜ at + length (now src) ≤ length (now out) ⌝ }
     ensures { λ r. ⌜ Wrote (now (out .entry)) at (now (src .entry)) (now (out .exit)) r ⌝ }
 {
-    let n = room(at, src.len(), out.len());
+    let n = src.len();
     let mut i = 0;
     while i < n {
         out[at + i] = src[i];
         i += 1;
     }
     at + n
+}
+
+// Writes src byte by byte, as far as out goes, and nothing else. Returns the next place.
+fn put_bytes(out: &mut [u8], at: usize, src: &[u8]) -> usize
+    ensures { λ r. ⌜ Wrote (now (out .entry)) at (now (src .entry)) (now (out .exit)) r ⌝ }
+{
+    let mut next = at;
+    let mut i = 0;
+    while i < src.len() {
+        next = put_u8(out, next, src[i]);
+        i += 1;
+    }
+    next
+}
+
+// Writes all of src, as far as out goes, and nothing else. Returns the next place.
+pub fn put(out: &mut [u8], at: usize, src: &[u8]) -> usize
+    ensures { λ r. ⌜ Wrote (now (out .entry)) at (now (src .entry)) (now (out .exit)) r ⌝ }
+{
+    if at <= out.len() {
+        if src.len() <= out.len() - at {
+            return put_whole(out, at, src);
+        }
+    }
+    put_bytes(out, at, src)
 }
 
 // Writes n zero bytes, as far as out goes, and nothing else. Returns the next place.

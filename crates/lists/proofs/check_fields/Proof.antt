@@ -8,10 +8,10 @@ use Rattle.lists.proofs.check_fields.Statement.{statement}
 use Rattle.lists.proofs.check_fields.Tie as tie
 
 abbrev Inv-loop : tie.InvT-loop
-Inv-loop b k f₀ f = (f ≤ 5) × (earliest (rowsFrom (fieldRows b k) 0 5) ≡ earliest (rowsFrom (fieldRows b k) f (5 - f)))
+Inv-loop b k clean f₀ f = (f ≤ 5) × (earliest (rowsFrom (fieldRows b k) 0 5) ≡ earliest (rowsFrom (fieldRows b k) f (5 - f)))
 
 abbrev μ-loop : tie.MeasureT-loop
-μ-loop b k f₀ f = 5 - f
+μ-loop b k clean f₀ f = 5 - f
 
 loop-holds : tie.Need-loop-holds Inv-loop μ-loop
 loop-holds c = (search needs, refl)

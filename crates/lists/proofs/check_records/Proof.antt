@@ -8,10 +8,10 @@ use Rattle.lists.proofs.check_records.Statement.{statement}
 use Rattle.lists.proofs.check_records.Tie as tie
 
 abbrev Inv-loop : tie.InvT-loop
-Inv-loop b count k₀ k = (k ≤ count) × (earliest (rowsFrom (recordRows b) 0 count) ≡ earliest (rowsFrom (recordRows b) k (count - k)))
+Inv-loop b count clean k₀ k = (k ≤ count) × (earliest (rowsFrom (recordRows b) 0 count) ≡ earliest (rowsFrom (recordRows b) k (count - k)))
 
 abbrev μ-loop : tie.MeasureT-loop
-μ-loop b count k₀ k = count - k
+μ-loop b count clean k₀ k = count - k
 
 loop-holds : tie.Need-loop-holds Inv-loop μ-loop
 loop-holds c = (search needs, rows-start _ _)

@@ -1,8 +1,8 @@
 -- `lists::check_rest` meets its contract.
-use borrow.Author.Needs.{needs}
 use native.Mathlib.Omega.{arith}
 use mathlib.Core.Path.{sym, _∙_}
 use Rattle.format.proofs.Strings.{rest-stop, rest-records}
+use borrow.Author.Needs.{needs}
 use Rattle.lists.proofs.check_rest.Statement.{statement}
 use Rattle.lists.proofs.check_rest.Tie as tie
 
@@ -10,12 +10,10 @@ returns : tie.Need-returns
 returns c = rest-stop _ _ _ (sym (c .before .before .before .check-dll .ensures) ∙ c .before .dll .given .1)
 
 returns-2 : tie.Need-returns-2
-returns-2 c =
-    c .check-records .ensures
-    ∙ rest-records _ _ (sym (c .before .before .before .before .before .check-dll .ensures) ∙ c .before .before .before .enum-told .given .1) (omega arith)
+returns-2 c = c .check-records .ensures ∙ rest-records _ _ (sym (c .before .before .before .before .before .check-dll .ensures) ∙ c .before .before .before .enum-told .given .1) (omega arith)
 
 pub check-rest-spec : {M : Type 1} → statement M
 check-rest-spec =
     tie.close
-    (tie.spec (λ c κs. search needs) (λ c. search needs) returns (λ c. search needs) (λ c κs. search needs)
-    (λ c κs. search needs) (λ c. search needs) (λ c κs. search needs) returns-2)
+    (tie.spec (λ c κs. search needs) (λ c κs. search needs) (λ c. search needs) returns (λ c. search needs)
+    (λ c κs. search needs) (λ c κs. search needs) (λ c. search needs) (λ c κs. search needs) returns-2)

@@ -9,7 +9,7 @@ returns : tie.Need-returns
 returns c =
     let c₂ = c .before .before in
     let c₁ = c₂ .before .before .before .before in
-    ended (c₁ .put .ensures) (c₂ .put-zeros .ensures)
+    ended (c₁ .put .ensures) (c₂ .put-u8 .ensures)
 
 pub put-string-spec : {M : Type 1} → statement M
 put-string-spec =
