@@ -1,0 +1,68 @@
+//! The members of Windows import libraries, written, read back and looked up by the proved library.
+//!
+//! `ExportList` makes a list, `write` writes its member set, `MemberSet` walks over one, `read` reads a member and `lookup`
+//! says where a symbol leads. Every function takes any bytes; what it cannot take is a `Refusal`.
+
+mod list;
+mod machine;
+mod member;
+pub mod raw;
+mod refusal;
+mod set;
+
+pub use list::{Export, ExportList};
+pub use machine::{Machine, NoMachine};
+pub use member::{Kind, Member, NameType, ShortImport, read};
+pub use refusal::Refusal;
+pub use set::{Led, Listed, MemberSet, lookup};
+
+/// What is given beside a list.
+#[derive(Clone, Copy, Debug, PartialEq, Eq)]
+pub struct Options {
+    pub machine: Machine,
+    pub mingw: bool,
+    pub whole_archive_compat: bool,
+}
+
+impl Options {
+    /// Neither mingw nor whole_archive_compat.
+    pub fn new(machine: Machine) -> Self {
+        Self {
+            machine,
+            mingw: false,
+            whole_archive_compat: false,
+        }
+    }
+}
+
+/// Whether a list would be written, given room: refusals 1 to 14.
+pub fn check(list: &[u8], machine: Machine, mingw: bool) -> Result<(), Refusal> {
+    Refusal::of(raw::check(list, machine.0, mingw)).map_or(Ok(()), Err)
+}
+
+/// Writes the member set of a list into `out` and returns its total. On a refusal `out` is as it was.
+pub fn write_into(list: &[u8], options: Options, out: &mut [u8]) -> Result<usize, Refusal> {
+    let Options {
+        machine,
+        mingw,
+        whole_archive_compat,
+    } = options;
+    let answer = raw::write(list, machine.0, mingw, whole_archive_compat, out);
+    Refusal::of(answer).map_or(Ok(answer as usize), Err)
+}
+
+/// The member set of a list.
+pub fn write(list: &[u8], options: Options) -> Result<Vec<u8>, Refusal> {
+    // The library does not tell a total before it writes, so the room doubles until it is enough.
+    let mut set = vec![0; 4 * list.len() + 1024];
+    loop {
+        match write_into(list, options, &mut set) {
+            Err(Refusal::Room) => set.resize(2 * set.len(), 0),
+            Err(refusal) => return Err(refusal),
+            Ok(total) => {
+                set.truncate(total);
+                return Ok(set);
+            }
+        }
+    }
+}
