@@ -1,21 +1,37 @@
 # Crepedum: import-library members, proved.
-.PHONY: test prove lib examples compare bench
+.PHONY: test prove lib shared example doors compare bench
 
-# Everything: proofs, must-fail edits, programs, and the comparison beside the Rust.
+library := target/staticlib/libcrepedum.a
+sources := crates.txt $(shell find crates -name '*.rt' -o -name '*.antt')
+
+# Everything: proofs, must-fail edits, programs, every way in, and the comparison beside the Rust.
 test:
 	@tools/test
+
+# The main job on an example: a member set and its members written, shown, and symbols looked up.
+example:
+	@tools/example
 
 # The proofs alone.
 prove:
 	@rt check
 
 # target/staticlib/libcrepedum.a, for C and Rust; include/crepedum.h declares it.
-lib:
-	@rt staticlib crepedum
+lib: $(library)
+	@:
 
-# The library called from C and from Python.
-examples:
-	@tools/examples
+$(library): $(sources)
+	@echo "proving and building $@; the first time takes minutes"
+	@rt staticlib crepedum >/dev/null
+	@touch $@
+
+# target/shared/libcrepedum.so, for Python.
+shared:
+	@tools/shared
+
+# README's snippets in C, Rust, Python and the shell, and the tests of the wrapper and the command.
+doors:
+	@tools/doors
 
 # The comparison beside the Rust at length.
 compare:
