@@ -1,5 +1,5 @@
 # Crepedum: import-library members, proved.
-.PHONY: test prove lib shared example doors compare bench
+.PHONY: test prove lib shared example doors compare bench link-test
 
 library := target/staticlib/libcrepedum.a
 sources := crates.txt $(shell find crates -name '*.rt' -o -name '*.antt')
@@ -36,6 +36,10 @@ doors:
 # The comparison beside the Rust at length.
 compare:
 	@tools/beside-rust 1000000
+
+# Real linkers, and the members of llvm-lib and llvm-dlltool; installs what is missing where it can.
+link-test:
+	@tools/link-test
 
 # Times beside a plain Rust program, on this machine, in release builds.
 bench: lib
