@@ -12,7 +12,8 @@ use crate::looks::Question;
 use crate::{finder, library, looks, plain, reader, reads};
 
 const RUNS: usize = 21;
-const ALIASES: usize = 1000;
+/// Exports, and how many of them are aliases.
+const SIZES: [(usize, usize); 5] = [(512, 0), (1024, 0), (2048, 0), (4096, 0), (4096, 1000)];
 const ROOM: usize = 1 << 20;
 const OPTIONS: Options = Options {
     machine: AMD64,
@@ -53,21 +54,20 @@ fn median(mut times: Vec<u128>) -> u128 {
     times[times.len() / 2]
 }
 
-/// The median times in nanoseconds of the check, of the library's writer and of the plain program. The runs take turns, so that
-/// a busy machine is busy for all.
-fn measure(list: &[u8]) -> [u128; 3] {
+/// The median times in nanoseconds of the library and of the plain program.
+type Times = [u128; 2];
+
+/// The library's writer and the plain one. The runs take turns, so that a busy machine is busy for both.
+fn measure_writes(list: &[u8]) -> Times {
     let mut out = vec![0; ROOM];
-    let mut times = [const { Vec::new() }; 3];
+    let mut times = [const { Vec::new() }; 2];
     for _ in 0..RUNS {
-        times[0].push(timed(|| {
-            library::check(black_box(list), AMD64, false).is_none()
-        }));
         out.fill(0);
-        times[1].push(timed(|| {
+        times[0].push(timed(|| {
             library::write(black_box(list), OPTIONS, &mut out).is_ok()
         }));
         black_box(&mut out).fill(0);
-        times[2].push(timed(|| {
+        times[1].push(timed(|| {
             plain::write(black_box(list), OPTIONS, &mut out).is_ok()
         }));
         black_box(&mut out);
@@ -96,8 +96,8 @@ fn measured_set(exports: usize, aliases: usize) -> Vec<u8> {
     set
 }
 
-/// The median times in nanoseconds of reading each member once, by the library and by the plain reader.
-fn measure_reads(members: &[&[u8]]) -> [u128; 2] {
+/// Each member read once.
+fn measure_reads(members: &[&[u8]]) -> Times {
     let mut fields = [0; FIELDS];
     let mut times = [const { Vec::new() }; 2];
     for _ in 0..RUNS {
@@ -117,34 +117,8 @@ fn measure_reads(members: &[&[u8]]) -> [u128; 2] {
     times.map(median)
 }
 
-/// Reading, in times and in bytes a second.
-fn bench_reads() -> Result<(), Difference> {
-    println!(
-        "{:>8} {:>8} {:>12} {:>12} {:>12} {:>12} {:>14}",
-        "members", "bytes", "read, ns", "plain, ns", "read, MB/s", "plain, MB/s", "read / plain"
-    );
-    for aliases in [0, ALIASES] {
-        let set = measured_set(4096, aliases);
-        let members = reads::members(&set)?;
-        for member in &members {
-            reads::judge(member)?;
-        }
-        let bytes: usize = members.iter().map(|member| member.len()).sum();
-        let [read, plain] = measure_reads(&members);
-        let speed = |time: u128| bytes as f64 * 1000.0 / time as f64;
-        println!(
-            "{:>8} {bytes:>8} {read:>12} {plain:>12} {:>12.0} {:>12.0} {:>14.2}",
-            members.len(),
-            speed(read),
-            speed(plain),
-            read as f64 / plain as f64
-        );
-    }
-    Ok(())
-}
-
-/// The median times in nanoseconds of looking one symbol up, which validates the set, by the library and by the plain lookup.
-fn measure_lookup(set: &[u8], symbol: &[u8]) -> [u128; 2] {
+/// One symbol looked up, for which the set is validated.
+fn measure_lookup(set: &[u8], symbol: &[u8]) -> Times {
     let mut fields = [0; looks::FIELDS];
     let mut times = [const { Vec::new() }; 2];
     for _ in 0..RUNS {
@@ -160,43 +134,54 @@ fn measure_lookup(set: &[u8], symbol: &[u8]) -> [u128; 2] {
     times.map(median)
 }
 
-/// Looking up the symbol of the last export, and one that is not there.
-fn bench_lookups() -> Result<(), Difference> {
-    println!(
-        "{:>8} {:>8} {:>8} {:>12} {:>12} {:>14} {:>14}",
-        "exports", "aliases", "symbol", "lookup, ns", "plain, ns", "ns an export", "lookup / plain"
+fn row(what: &str, (exports, aliases): (usize, usize), [ours, plain]: Times) {
+    let ratio = ours as f64 / plain as f64;
+    println!("{what:<21} {exports:>8} {aliases:>8} {ours:>12} {plain:>12} {ratio:>7.2}");
+}
+
+fn bench_writes((exports, aliases): (usize, usize)) -> Result<(), Difference> {
+    let list = measured_list(exports, aliases);
+    same_set(&list)?;
+    row("write", (exports, aliases), measure_writes(&list));
+    Ok(())
+}
+
+fn bench_reads((exports, aliases): (usize, usize)) -> Result<(), Difference> {
+    let set = measured_set(exports, aliases);
+    let members = reads::members(&set)?;
+    for member in &members {
+        reads::judge(member)?;
+    }
+    row(
+        "read each member",
+        (exports, aliases),
+        measure_reads(&members),
     );
-    for (exports, aliases) in [(512, 0), (1024, 0), (2048, 0), (4096, 0), (4096, ALIASES)] {
-        let set = measured_set(exports, aliases);
-        for (which, k) in [("last", exports - 1), ("none", exports)] {
-            let symbol = name(k).into_bytes();
-            Question::of(&set).judge(1, &symbol)?;
-            let [lookup, plain] = measure_lookup(&set, &symbol);
-            println!(
-                "{exports:>8} {aliases:>8} {which:>8} {lookup:>12} {plain:>12} {:>14.1} {:>14.2}",
-                lookup as f64 / exports as f64,
-                lookup as f64 / plain as f64
-            );
-        }
+    Ok(())
+}
+
+/// The symbol of the last export, and one that is not there.
+fn bench_lookups((exports, aliases): (usize, usize)) -> Result<(), Difference> {
+    let set = measured_set(exports, aliases);
+    for (what, k) in [
+        ("look up the last", exports - 1),
+        ("look up a stranger", exports),
+    ] {
+        let symbol = name(k).into_bytes();
+        Question::of(&set).judge(1, &symbol)?;
+        row(what, (exports, aliases), measure_lookup(&set, &symbol));
     }
     Ok(())
 }
 
+/// One table: each operation at each size.
 pub fn bench() -> Result<String, Difference> {
     println!(
-        "{:>8} {:>8} {:>12} {:>12} {:>12} {:>14}",
-        "exports", "aliases", "check, ns", "write, ns", "plain, ns", "write / plain"
+        "{:<21} {:>8} {:>8} {:>12} {:>12} {:>7}",
+        "", "exports", "aliases", "ours, ns", "plain, ns", "ratio"
     );
-    for (exports, aliases) in [(512, 0), (1024, 0), (2048, 0), (4096, 0), (4096, ALIASES)] {
-        let list = measured_list(exports, aliases);
-        same_set(&list)?;
-        let [check, write, plain] = measure(&list);
-        println!(
-            "{exports:>8} {aliases:>8} {check:>12} {write:>12} {plain:>12} {:>14.2}",
-            write as f64 / plain as f64
-        );
+    for operation in [bench_writes, bench_reads, bench_lookups] {
+        SIZES.into_iter().try_for_each(operation)?;
     }
-    bench_reads()?;
-    bench_lookups()?;
     Ok(format!("names of 40 bytes, median of {RUNS}, AMD64"))
 }
