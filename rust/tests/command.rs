@@ -263,7 +263,7 @@ fn is_true_of(json: &[u8], expression: &str) -> Option<bool> {
 #[test]
 fn json_is_read_by_python() {
     let folder = Folder::new("json");
-    let odd = Export::new(b"\xff\"\\\n").export_as("t\u{e4}g\u{1}");
+    let odd = Export::new(b"\xff\"\\\n").export_as("t\u{e4}g\u{1}\"\\");
     let list = ExportList::new("a.dll")
         .export(odd)
         .native(Export::new("f"));
@@ -277,7 +277,7 @@ fn json_is_read_by_python() {
         "[m['number'] for m in shown['members']] == [1, 2, 3, 4, 5]",
         "[m['list'] for m in shown['members']] == [None, None, None, 1, 2]",
         "shown['members'][3]['name'] == {'hex': 'ff225c0a'}",
-        "shown['members'][3]['export'] == 't\\u00e4g\\u0001'",
+        "shown['members'][3]['export'] == 't\\u00e4g\\u0001\"\\\\'",
         "shown['members'][4]['symbols'][0] == {'symbol': '__imp_f', 'leads_to': 'name', 'name': 'f'}",
         "all(m['offset'] + m['size'] <= shown['size'] for m in shown['members'])",
     ] {
@@ -379,16 +379,20 @@ fn a_wrong_use_is_64() {
     assert_eq!(folder.names(), ["att.list", "att.set"]);
 }
 
+#[cfg(unix)]
 #[test]
 fn a_file_that_cannot_be_had_is_74() {
     let folder = Folder::new("io");
     fs::create_dir(folder.0.join("there")).expect("a folder");
+    // A pipe stands for every device: a faulty command would do no harm by replacing it.
+    let pipe = Command::new("mkfifo").arg(folder.0.join("pipe")).status();
+    assert!(pipe.is_ok_and(|status| status.success()), "no pipe");
     let before = folder.names();
     for line in [
         "write none.list --machine amd64 -o x",
         "write att.list --machine amd64 -o none/x",
         "write att.list --machine amd64 -o there",
-        "write att.list --machine amd64 -o /dev/null",
+        "write att.list --machine amd64 -o pipe",
         "write att.list --machine amd64 --members there",
         "write att.list --machine amd64 --members none/x",
         "write att.list --machine amd64 -o x --members there",

@@ -74,6 +74,7 @@ fn every_symbol_of_a_member_is_found() {
         .export(sharp)
         .export(middle)
         .export(odd.noname().ordinal(3))
+        .export(Export::new("?end$$h").noname().ordinal(4))
         .export(data)
         .native(Export::new("plain"));
     let set = write(&list.encode(), Options::new(Machine::ARM64X)).expect("the list is good");
@@ -87,7 +88,7 @@ fn every_symbol_of_a_member_is_found() {
         }
         counts.push(symbols.len());
     }
-    assert_eq!(counts, [0, 0, 0, 4, 4, 4, 3, 1, 2]);
+    assert_eq!(counts, [0, 0, 0, 4, 4, 4, 3, 3, 1, 2]);
 }
 
 #[test]

@@ -17,8 +17,12 @@ ROOT = Path(__file__).resolve().parents[2]
 COMMAND = ROOT / "rust/target/release/crepedum"
 GNU = {"amd64": "x86_64-w64-mingw32-ld", "i386": "i686-w64-mingw32-ld"}
 TRIPLES = {"amd64": "x86_64", "i386": "i686", "arm64": "aarch64", "arm64ec": "arm64ec"}
-SOURCES = {"amd64": ROOT / "examples/att.exports", "arm64": ROOT / "examples/att.exports", "i386": ROOT / "tools/link/i386.exports"}
-# GNU ld 2.40 takes none of these.
+SOURCES = {
+    "amd64": ROOT / "examples/att.exports",
+    "arm64": ROOT / "examples/att.exports",
+    "i386": ROOT / "tools/link/i386.exports",
+}
+# GNU ld 2.40 takes neither these nor constants.
 NOT_FOR_GNU = ("export_as", "import_name")
 
 
@@ -228,8 +232,8 @@ def run_program(job, wine):
 def gnu_exports(exports):
     """What GNU ld takes of the exports."""
     dll, first, native = exports
-    is_taken = lambda export: not any(key in export for key in NOT_FOR_GNU) and "constant" not in export["flags"]
-    return dll, [export for export in first if is_taken(export)], native
+    named = [export for export in first if not any(key in export for key in NOT_FOR_GNU)]
+    return dll, [export for export in named if "constant" not in export["flags"]], native
 
 
 def main():
