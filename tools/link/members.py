@@ -1,5 +1,8 @@
 #!/usr/bin/env python3
-"""Compares our members with those that llvm-lib and llvm-dlltool make of module definitions, byte for byte."""
+"""Compares our members with those that llvm-lib and llvm-dlltool make of module definitions, byte for byte.
+
+tools/link-test runs this, with examples/ among Python's paths.
+"""
 
 import sys
 import tempfile
