@@ -128,6 +128,29 @@ fn a_set_and_its_members_are_written() {
 }
 
 #[test]
+fn a_symbol_leads_no_file_out_of_its_folder() {
+    let folder = Folder::new("inside");
+    let long = "n".repeat(4095);
+    let list = ["../../x", "/y", "a\nb", &long].map(Export::new);
+    let list = list
+        .into_iter()
+        .fold(ExportList::new("a.dll"), ExportList::export);
+    folder.write("odd.list", &list.encode());
+    folder
+        .say("write odd.list --machine amd64 --members odd")
+        .succeeded();
+    let files = names(&folder.0.join("odd"));
+    assert_eq!(files[3], "00004-list1-import-------x.obj");
+    assert_eq!(files[4], "00005-list1-import--y.obj");
+    assert_eq!(files[5], "00006-list1-import-a-b.obj");
+    assert_eq!(
+        files[6],
+        format!("00007-list1-import-{}.obj", "n".repeat(64))
+    );
+    assert_eq!(folder.names(), ["att.list", "odd", "odd.list"]);
+}
+
+#[test]
 fn options_reach_the_library() {
     let folder = Folder::new("options");
     let line = "write att.list --machine i386 --mingw --whole-archive-compat -o -";
