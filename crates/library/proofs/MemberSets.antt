@@ -8,13 +8,12 @@ use native.Mathlib.Omega.{arith}
 use lib.Dec.{ltb}
 use lib.ListN.{length, take, drop, length-append, length-map}
 use borrow.Author.Tests.{lt-ltb, le-ltb}
-use Rattle.wire.specs.Bytes.{Bytes, Octets, le32, part, join}
+use Rattle.wire.specs.Bytes.{Bytes, Octets, le32, join}
 use Rattle.wire.specs.Writes.{over, Wrote}
 use Rattle.wire.proofs.Bytes.{length-part}
 use Rattle.wire.proofs.Writes.{over-over, over-comm, over-exact}
 use Rattle.format.specs.Machines.{firstMachine, nativeMachine}
 use Rattle.format.specs.Exports.{Export, firstCount, nativeCount, bothCounts, namesAt, dllField, offsetOf, lengthOf, bytesAt, dllName, exportsFrom, firstExports, nativeExports}
-use Rattle.format.specs.Names.{stem}
 use Rattle.format.specs.Layouts.{Member, encode}
 use Rattle.format.specs.Library.{Options, setHeaderSize, entrySize, firstMemberAt, directory, membersOf, fixedMembers, firstMembers, nativeMembers, allMembers, setBytes, memberSet}
 use Rattle.format.specs.Refusals.{Row, row, earliest, machineRows, listRows, exportRows, acceptRows, roomRows, allRows, checkList, checkExports, checkAll}
@@ -25,7 +24,6 @@ use Rattle.format.specs.declared.Written.{Written}
 use Rattle.format.specs.declared.Written.the-variants as W
 use Rattle.format.proofs.Rows.{fine-before, fine-after, earliest-given, earliest-passed, earliest-none, earliest-append, andThen-stops, andThen-goes-on}
 use Rattle.format.proofs.Listed.{Listed, listed, dll-few, dll-inside}
-use Rattle.names.specs.Dll.{Stem}
 use Rattle.laws.proofs.Accepted.{accepted}
 use Rattle.laws.proofs.Totals.{maxMember, first-few, native-few, members-small, length-directory, length-setBytes}
 use Rattle.walks.specs.Pen.{Room, Drew, fixedOf}
@@ -33,10 +31,6 @@ use Rattle.library.specs.Sets.{membersBy, DrewBy, DrewAll, farthest, Mea
 use Rattle.walks.proofs.Pens.{room-as, room-first, room-next, drew-as, drew-more, drew-length}
 
 -- ---- the fixed members, the first list, the native list
-
-pub stem-part : {dll s : Bytes} {r : ℕ} → Stem dll r → s ≡ part dll 0 r → s ≡ stem dll
-unfolding part
-stem-part p e = e ∙ p .bytes
 
 pub counts-small : (b : Bytes) {first native : ℕ} → checkList b ≡ Fine → first ≡ firstCount b → native ≡ nativeCount b → (first ≤ 4096) × (native ≤ 4096) × (first + native ≡ bothCounts b)
 counts-small b e f g = let l = listed b e in (omega (arith, l .shape .firsts), omega (arith, l .shape .natives), omega (arith, f, g))

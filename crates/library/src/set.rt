@@ -3,7 +3,9 @@ use coff::machines;
 use coff::machines::Machine;
 use format::Written;
 use lists::record;
-use walks::pen::ENTRY_SIZE;
+use members::layouts::ENTRY_SIZE;
+use members::layouts::FIXED_MEMBERS;
+use members::layouts::SET_HEADER_SIZE;
 use walks::pen::at_of;
 use walks::pen::draw_fixed;
 use walks::pen::entry_of;
@@ -22,14 +24,13 @@ ghost use Rattle.coff.specs.Machines.{IsMachine};
 ghost use Rattle.walks.specs.Pen.{entryOf, atOf, Room};
 ghost use Rattle.library.specs.Sets.{membersBy, DrewBy, DrewAll, Measured, headerBytes};
 
-// How many bytes the header of a set has.
-const HEADER_SIZE: usize = 16;
+// How many exports both lists have at most, and how many members each of them.
+const MAX_EXPORTS: usize = 2 * (lists::MAX_COUNT as usize);
 
-// A set has at most the three fixed members and two for each of 8,192 exports; where its first member then stands.
-const FARTHEST: usize = HEADER_SIZE + ENTRY_SIZE * 16387;
+const MAX_MEMBERS: usize = 2;
 
-// The fixed members of a set.
-const FIXED: usize = 3;
+// Where the first member of a set stands that has the most members.
+const FARTHEST: usize = SET_HEADER_SIZE + ENTRY_SIZE * (FIXED_MEMBERS + MAX_MEMBERS * MAX_EXPORTS);
 
 // Where the pen stands after all members, and how many each list has.
 pub struct Drawn {
@@ -103,7 +104,7 @@ fn measure(none: &mut [u8], b: &[u8], machine: Machine, mingw: bool, compat: boo
     requires { ⌜ IsMachine machine ⌝ }
     ensures { λ r. ⌜ (now (none .exit) ≡ []) × Measured (record { machine = machine .number; mingw = mingw; compat = compat }) (now (b .entry)) (entryOf (r .pen)) (atOf (r .pen)) (r .firsts) (r .natives) ⌝ }
 {
-    let pen = pen_at(HEADER_SIZE, FARTHEST);
+    let pen = pen_at(SET_HEADER_SIZE, FARTHEST);
     draw_all(none, pen, b, machine, mingw, compat)
 }
 
@@ -112,7 +113,7 @@ fn put_header(out: &mut [u8], firsts: usize, natives: usize, first_at: usize) ->
     requires { ⌜ (firsts ≤ 8192) × (natives ≤ 8192) × («first_at» < 4294967296) ⌝ }
     ensures { λ r. ⌜ Wrote (now (out .entry)) 0 (headerBytes firsts natives «first_at») (now (out .exit)) r ⌝ }
 {
-    let a = wire::put_u32(out, 0, (FIXED + firsts + natives) as u32);
+    let a = wire::put_u32(out, 0, (FIXED_MEMBERS + firsts + natives) as u32);
     let b = wire::put_u32(out, a, firsts as u32);
     let c = wire::put_u32(out, b, natives as u32);
     wire::put_u32(out, c, first_at as u32)
@@ -140,7 +141,7 @@ pub fn write_accepted(
             place: 0,
         };
     }
-    let pen = pen_at(HEADER_SIZE, first_at);
+    let pen = pen_at(SET_HEADER_SIZE, first_at);
     draw_all(out, pen, b, machine, mingw, compat);
     put_header(out, size.firsts, size.natives, first_at);
     Written::Total(total)

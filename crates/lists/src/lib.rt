@@ -17,7 +17,7 @@ pub const HEADER_SIZE: usize = 28;
 
 pub const RECORD_SIZE: usize = 44;
 
-const MAX_COUNT: u32 = 4096;
+pub const MAX_COUNT: u32 = 4096;
 
 const MAX_STRING: u32 = 4095;
 

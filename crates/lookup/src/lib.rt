@@ -7,9 +7,9 @@ pub mod sets; // sets.rt: the set, and its members by their numbers
 pub mod symbols; // symbols.rt: the symbols that a member defines
 pub mod entries; // entries.rt: what a short import answers
 
-use crate::sets::FIXED;
 use format::Looked;
 use format::Read;
+use members::layouts::FIXED_MEMBERS;
 use names::search::Place;
 ghost use Prim.Native.Nat.{_-_, _≤_};
 ghost use mathlib.Core.Path.{_≡_};
@@ -167,9 +167,9 @@ pub fn lookup(set: &[u8], list: u32, symbol: &[u8]) -> Looked
     if !sets::valid(set) {
         return REFUSED;
     }
-    let natives = FIXED + sets::firsts(set);
+    let natives = FIXED_MEMBERS + sets::firsts(set);
     if list == FIRST_LIST {
-        return look(set, FIXED, natives, symbol);
+        return look(set, FIXED_MEMBERS, natives, symbol);
     }
     if list == NATIVE_LIST {
         return look(set, natives, sets::count(set), symbol);

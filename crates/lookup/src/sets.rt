@@ -1,5 +1,8 @@
 // A member set: its header, its directory, and its members by their numbers.
 use format::Read;
+use members::layouts::ENTRY_SIZE;
+use members::layouts::FIXED_MEMBERS;
+use members::layouts::SET_HEADER_SIZE;
 ghost use Prim.Native.Nat.{_+_, _*_, _≤_, _<_};
 ghost use mathlib.Core.Path.{_≡_};
 ghost use mathlib.Core.Bool.{true};
@@ -9,9 +12,7 @@ ghost use Rattle.format.specs.Library.{firstMemberAt};
 ghost use Rattle.format.specs.Lookup.{offsetAt, lengthAt, setCount, setFirsts, backToBack, laidOut, readSet};
 ghost use Rattle.lookup.specs.Numbered.{bytesOf, rankRead, nextRank, rankedFrom};
 
-// The header, and where its fields stand: how many members there are, how many of each list, and where the first stands.
-const HEADER_SIZE: usize = 16;
-
+// Where the fields of the header stand: how many members there are, how many of each list, and where the first stands.
 const COUNT: usize = 0;
 
 const FIRSTS: usize = 4;
@@ -20,15 +21,10 @@ const NATIVES: usize = 8;
 
 const FIRST_MEMBER: usize = 12;
 
-// A member's entry in the directory: its offset, and its length.
-const ENTRY_SIZE: usize = 8;
-
+// Where the length stands in a member's entry, after the offset.
 const LENGTH: usize = 4;
 
-// The fixed members, which stand before both lists.
-pub const FIXED: usize = 3;
-
-// The rank of those of the lists.
+// The rank of the members of the lists.
 const LISTED: u32 = 3;
 
 // ---- fields
@@ -62,7 +58,7 @@ pub fn offset_at(set: &[u8], i: usize) -> usize
     requires { ⌜ firstMemberAt (i + 1) ≤ length (now set) ⌝ }
     ensures { λ r. ⌜ (r ≡ offsetAt (now (set .entry)) i) × (r < 4294967296) ⌝ }
 {
-    field(set, HEADER_SIZE + ENTRY_SIZE * i)
+    field(set, SET_HEADER_SIZE + ENTRY_SIZE * i)
 }
 
 // How long it is.
@@ -70,7 +66,7 @@ fn length_at(set: &[u8], i: usize) -> usize
     requires { ⌜ firstMemberAt (i + 1) ≤ length (now set) ⌝ }
     ensures { λ r. ⌜ (r ≡ lengthAt (now (set .entry)) i) × (r < 4294967296) ⌝ }
 {
-    field(set, HEADER_SIZE + ENTRY_SIZE * i + LENGTH)
+    field(set, SET_HEADER_SIZE + ENTRY_SIZE * i + LENGTH)
 }
 
 // ---- the layout
@@ -96,17 +92,17 @@ fn back_to_back(set: &[u8], at: usize, count: usize) -> bool
 fn laid_out(set: &[u8]) -> bool
     ensures { λ r. ⌜ r ≡ laidOut (now (set .entry)) ⌝ }
 {
-    if set.len() < HEADER_SIZE {
+    if set.len() < SET_HEADER_SIZE {
         return false;
     }
     let count = field(set, COUNT);
     let firsts = field(set, FIRSTS);
     let natives = field(set, NATIVES);
-    if count != FIXED + firsts + natives {
+    if count != FIXED_MEMBERS + firsts + natives {
         return false;
     }
     let at = field(set, FIRST_MEMBER);
-    if at != HEADER_SIZE + ENTRY_SIZE * count {
+    if at != SET_HEADER_SIZE + ENTRY_SIZE * count {
         return false;
     }
     // No member could end where the set ends.

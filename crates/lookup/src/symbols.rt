@@ -1,6 +1,7 @@
 // The symbols that a member defines, compared with one without building any.
 use coff::constants::IMAGE_FILE_MACHINE_ARM64EC;
 use format::Read;
+use members::IMP_PREFIX;
 use names::mangler;
 use names::mangler::Demangled;
 ghost use mathlib.Core.Path.{_≡_};
@@ -10,9 +11,7 @@ ghost use Rattle.format.specs.Reader.{read};
 ghost use Rattle.format.specs.Lookup.{among};
 ghost use Rattle.lookup.specs.Numbered.{shortSymbols, plainSymbols, hybridSymbols, symbolsOf};
 
-// What stands before the name of an import's address, and of an ARM64EC import's auxiliary one.
-const IMP_PREFIX: [u8; 6] = *b"__imp_";
-
+// What stands before the name of an ARM64EC import's auxiliary address.
 const IMP_AUX_PREFIX: [u8; 10] = *b"__imp_aux_";
 
 // The kind of an import of data.

@@ -3,3 +3,4 @@ pub mod Runs
 pub mod ByWidth
 pub mod Cases
 pub mod Sizes
+pub mod Extending

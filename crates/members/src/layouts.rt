@@ -1,4 +1,4 @@
-// Where the parts of a member stand, and what its sections are.
+// Where the parts of a member stand, and what its sections are; and the parts of a member set.
 use coff::constants::IMAGE_SCN_ALIGN_2BYTES;
 use coff::constants::IMAGE_SCN_ALIGN_4BYTES;
 use coff::constants::IMAGE_SCN_CNT_INITIALIZED_DATA;
@@ -52,3 +52,13 @@ pub const DRECTVE: u32 = IMAGE_SCN_LNK_INFO | IMAGE_SCN_LNK_REMOVE;
 pub const FIRST_SECTION: i16 = 1;
 
 pub const SECOND_SECTION: i16 = 2;
+
+// ---- the member set
+
+// How many bytes its header has, and each member's entry in its directory.
+pub const SET_HEADER_SIZE: usize = 16;
+
+pub const ENTRY_SIZE: usize = 8;
+
+// The fixed members, which stand before both lists.
+pub const FIXED_MEMBERS: usize = 3;

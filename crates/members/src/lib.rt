@@ -4,6 +4,7 @@ pub mod layouts; // layouts.rt: where the parts of a member stand
 pub mod widths; // widths.rt: what a machine's width decides
 pub mod tables; // tables.rt: strings with NUL, and string tables
 pub mod parts; // parts.rt: runs of records
+pub mod extents; // extents.rt: how many bytes each member has
 
 use crate::layouts::DATA_AT_1;
 use crate::layouts::DATA_AT_2;
@@ -46,7 +47,7 @@ pub const NAME_TYPE: u16 = 4;
 pub const EXPORT_AS: u16 = 4;
 
 // What stands before the name of an import's address.
-const IMP_PREFIX: [u8; 6] = *b"__imp_";
+pub const IMP_PREFIX: [u8; 6] = *b"__imp_";
 
 // Writes an import descriptor, as far as out goes, and nothing else: a reference to the terminators, and the name of the
 // DLL. Returns the next place, as all that follow do.

@@ -23,6 +23,9 @@ pub const NULL_THUNK_DATA_PREFIX: [u8; 1] = *b"\x7f";
 
 pub const NULL_THUNK_DATA_SUFFIX: [u8; 16] = *b"_NULL_THUNK_DATA";
 
+// How long the name of a null thunk is beside its stem.
+pub const NULL_THUNK_DATA: usize = NULL_THUNK_DATA_PREFIX.len() + NULL_THUNK_DATA_SUFFIX.len();
+
 // ---- strings
 
 // Writes a string and its NUL, as far as out goes, and nothing else. Returns the next place, as all that follow do.

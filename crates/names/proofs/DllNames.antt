@@ -8,7 +8,7 @@ use lib.ListN.{length, getD, take}
 use lib.Seq.{length-take-le, take-all}
 use lib.Dec.{eqb}
 use borrow.Author.Tests.{eq-eqb, ne-eqb}
-use Rattle.wire.specs.Bytes.{Bytes, ascii, if_then_else_, same, holds, last}
+use Rattle.wire.specs.Bytes.{Bytes, ascii, if_then_else_, part, same, holds, last}
 use Rattle.format.specs.Names.{dot, slash, backslash, colon, upToDot, stem, barredDll}
 use Rattle.names.specs.Dll.{Stem}
 
@@ -54,6 +54,11 @@ stem-whole d i h e =
     leading zero h = refl
     leading (suc zero) h = first (eqb (getD d 0 0) dot)
     leading (suc (suc i)) h = absurd (omega arith)
+
+-- the first bytes of the DLL name, as many as its stem has
+pub stem-part : {s dll : Bytes} {n : ℕ} → s ≡ part dll 0 n → Stem dll n → s ≡ stem dll
+unfolding part
+stem-part e k = e ∙ k .bytes
 
 -- ---- barredDll
 

@@ -32,9 +32,6 @@ const FAILS: u8 = 2;
 // How long a name may be that is renamed or mangled.
 const LONGEST: usize = 4095;
 
-// How many bytes the tag `$$h` has.
-const TAG_LEN: usize = 3;
-
 // Whether the public name is what the Rust says.
 pub fn replace(s: &[u8], from: &[u8], to: &[u8], verdict: u8, made: &[u8]) -> bool
     ensures { λ r. ⌜ (r ≡ true → replace (now (s .entry)) (now (from .entry)) (now (to .entry)) ≡ told verdict (now (made .entry))) ⌝ }
@@ -93,13 +90,13 @@ fn is_cut(name: &[u8], at: usize, verdict: u8, made: &[u8]) -> bool
     if made.len() < at {
         return false;
     }
-    if name.len() < TAG_LEN {
+    if name.len() < mangler::TAG_LEN {
         return false;
     }
-    if name.len() - TAG_LEN < at {
+    if name.len() - mangler::TAG_LEN < at {
         return false;
     }
-    let end = at + TAG_LEN;
+    let end = at + mangler::TAG_LEN;
     if !wire::same(&name[..at], &made[..at]) {
         return false;
     }

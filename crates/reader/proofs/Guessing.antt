@@ -1,5 +1,5 @@
 -- The member that the code's fields make is the one of the definition.
-use Prim.Native.Nat.{ℕ, _+_, _*_, _-_, _/_, _%_, _≤_, _<_}
+use Prim.Native.Nat.{ℕ, _+_, _-_, _/_, _%_, _≤_, _<_}
 use mathlib.Core.Path.{_≡_, refl, sym, ap, ap₂, _∙_}
 use mathlib.Core.Bool.{Bool, true, false, _&&_, not, true≢false}
 use mathlib.Core.Option.{none, some}
@@ -12,7 +12,6 @@ use Rattle.wire.specs.Bytes.{Bytes, ascii, if_then_else_, u16At, u32At, same, p
 use Rattle.wire.proofs.Bytes.{same-longer}
 use Rattle.wire.proofs.Parts.{part-last}
 use Rattle.format.specs.Machines.{known, arm64x}
-use Rattle.format.specs.Names.{stem}
 use Rattle.format.specs.Layouts.{Member, descriptor, nullDescriptor, nullThunk, short, weak, dllAt, importHeaderSize, nullName, thunkName, encode}
 use Rattle.format.specs.Reader.{between, admitsDll, ordinary, admits, textAt, nullStringsAt, thunkStringsAt, weakStringsAt, descriptorGuess, nullGuess, thunkGuess, shortGuess, weakGuess, guess, right, read, fieldsOrRefused, readFields}
 use Rattle.format.specs.declared.Read.{Read}
@@ -20,25 +19,18 @@ use Rattle.format.specs.declared.Read.the-variants.{Refused}
 use Rattle.laws.proofs.Lengths.{length-encode-descriptor, length-encode-nullDescriptor-none, length-encode-nullDescriptor-some, length-encode-nullThunk, length-encode-short, length-encode-weak}
 use Rattle.coff.specs.Records.{importHeaderAt}
 use Rattle.coff.specs.declared.records.ImportObjectHeader.{ImportObjectHeader}
-use Rattle.names.specs.Dll.{Stem}
 use Rattle.reader.specs.Answers.{answer, objectGuess, admitsTypes}
 use Rattle.reader.proofs.Admitting.{between-less}
 use Rattle.reader.proofs.Answering.{barred, admits-null-of, admits-thunk}
 
 -- ---- the import descriptor
 
-pub descriptor-guessed : {m n : ℕ} {dll : Bytes} {c : Bool} (b : Bytes) → m ≡ u16At b 0 → dll ≡ textAt b dllAt → n ≡ length (stem dll)
-    → c ≡ not (eqb (length b) (345 + length dll + 2 * n)) → descriptor m dll c ≡ descriptorGuess b
+pub descriptor-guessed : {m n : ℕ} {dll : Bytes} {c : Bool} (b : Bytes) → m ≡ u16At b 0 → dll ≡ textAt b dllAt → n ≡ length (encode (descriptor m dll false))
+    → c ≡ not (eqb (length b) n) → descriptor m dll c ≡ descriptorGuess b
 unfolding descriptorGuess
 descriptor-guessed {m} {n} {dll} {c} b em ed en ec =
-    let k : 345 + length dll + 2 * n ≡ length (encode (descriptor m dll false)) = omega (arith, length-encode-descriptor m dll false) in
-    ap (descriptor m dll) (ec ∙ ap (λ (k : ℕ). not (eqb (length b) k)) k)
+    ap (descriptor m dll) (ec ∙ ap (λ (n : ℕ). not (eqb (length b) n)) en)
     ∙ ap₂ (λ (m : ℕ) (d : Bytes). descriptor m d (not (eqb (length b) (length (encode (descriptor m d false)))))) em ed
-
--- the first bytes of the DLL name, as many as its stem has
-pub stem-part : {s dll : Bytes} {n : ℕ} → s ≡ part dll 0 n → Stem dll n → s ≡ stem dll
-unfolding part
-stem-part e k = e ∙ k .bytes
 
 pub descriptor-barred : {dll : Bytes} (b : Bytes) → ordinary (u16At b 0) ≡ true → dll ≡ textAt b dllAt → admitsDll dll ≡ false → admits (descriptorGuess b) ≡ false
 unfolding descriptorGuess admits

@@ -17,38 +17,22 @@ use coff::machines::Found;
 use coff::machines::Machine;
 use coff::records::FileHeader;
 use coff::records::ImportObjectHeader;
-use coff::records::Symbol;
 use format::Read;
+use members::extents;
 use members::layouts::DESCRIPTOR_SYMBOLS;
 use members::layouts::DLL_AT;
 use members::layouts::WEAK_SYMBOLS;
-use members::tables::IMPORT_DESCRIPTOR_PREFIX;
 use members::tables::NUL;
 use members::tables::NULL_IMPORT_DESCRIPTOR_SYMBOL_NAME;
 use members::tables::NULL_IMPORT_DESCRIPTOR_SYMBOL_NAME_PREFIX;
+use members::tables::NULL_THUNK_DATA;
 use members::tables::NULL_THUNK_DATA_PREFIX;
-use members::tables::NULL_THUNK_DATA_SUFFIX;
-use members::tables::STRINGS_AT;
 ghost use Prim.Native.Nat.{_≤_};
 ghost use mathlib.Core.Path.{_≡_};
 ghost use lib.ListN.{length};
 ghost use Rattle.format.specs.Layouts.{importHeaderSize};
 ghost use Rattle.format.specs.Reader.{descriptorGuess, nullGuess, thunkGuess, shortGuess, weakGuess, readFields};
 ghost use Rattle.reader.specs.Answers.{answer, Ordinary, First, objectGuess};
-
-// How long the name of a null thunk is beside its stem, and an import descriptor beside its DLL name and two stems.
-const NULL_THUNK_DATA: usize = NULL_THUNK_DATA_PREFIX.len() + NULL_THUNK_DATA_SUFFIX.len();
-
-const DESCRIPTOR_SIZE: usize = DLL_AT
-    + NUL
-    + (DESCRIPTOR_SYMBOLS as usize) * Symbol::SIZE
-    + STRINGS_AT
-    + IMPORT_DESCRIPTOR_PREFIX.len()
-    + NUL
-    + NULL_IMPORT_DESCRIPTOR_SYMBOL_NAME.len()
-    + NUL
-    + NULL_THUNK_DATA
-    + NUL;
 
 // An import descriptor. Under compat it is longer, by the stem.
 fn read_descriptor(b: &[u8], machine: Machine) -> Read
@@ -60,9 +44,9 @@ fn read_descriptor(b: &[u8], machine: Machine) -> Read
     if !texts::admits_dll(dll) {
         return REFUSED;
     }
-    let n = names::dll::stem(dll);
-    let compat = b.len() != DESCRIPTOR_SIZE + dll.len() + 2 * n;
-    answers::as_descriptor(b, machine, dll, wire::part(dll, 0, n), compat)
+    let stem = wire::part(dll, 0, names::dll::stem(dll));
+    let compat = b.len() != extents::descriptor_size(dll, stem, false);
+    answers::as_descriptor(b, machine, dll, stem, compat)
 }
 
 // A null import descriptor. Its name ends in the stem, or is the name alone.

@@ -1,4 +1,3 @@
 pub mod Pens
-pub mod SizeCases
 pub mod Imports
 pub mod Records

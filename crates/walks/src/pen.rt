@@ -1,9 +1,10 @@
 // Members drawn into an output, each with its entry in the directory. Into an empty output nothing is written, and the pen moves as it
 // would elsewhere: so a list is measured by the walk that writes it.
-use crate::sizes;
 use coff::import::ImportNameType;
 use coff::import::ImportType;
 use coff::machines::Machine;
+use members::extents;
+use members::layouts::ENTRY_SIZE;
 ghost use mathlib.Core.Path.{_≡_};
 ghost use mathlib.Core.List.{[], _∷_, _++_};
 ghost use Prim.Native.Nat.{_+_, _≤_, _<_};
@@ -17,9 +18,6 @@ ghost use Rattle.walks.specs.Pen.{entryOf, atOf, Room, Drew, Noted, fixe
 
 // A pen is one number, which stays in a register: where the next entry goes, and, in its upper half, where the next member goes.
 const UPPER: u64 = 4294967296;
-
-// How many bytes an entry has.
-pub const ENTRY_SIZE: usize = 8;
 
 // The pen at two places.
 pub fn pen_at(entry: usize, at: usize) -> u64
@@ -68,7 +66,7 @@ pub fn draw_weak(out: &mut [u8], pen: u64, sym: &[u8], weak: &[u8], imp: bool, m
     requires { ⌜ (length (now sym) ≤ 65536) × (length (now weak) ≤ 65536) ⌝ }
     ensures { λ r. ⌜ Drew (now (out .entry)) (entryOf pen) (atOf pen) (weakOf machine imp (now (sym .entry)) (now (weak .entry)) ∷ []) (now (out .exit)) (entryOf r) (atOf r) ⌝ }
 {
-    let size = sizes::weak_size(sym, weak, imp);
+    let size = extents::weak_size(sym, weak, imp);
     if out.len() == 0 {
         return moved(pen, size);
     }
@@ -94,7 +92,7 @@ pub fn draw_short(
     requires { ⌜ ((length (now sym) ≤ 65536) × (length (now dll) ≤ 65536)) × ((length (now head) ≤ 65536) × (length (now tail) ≤ 65536)) ⌝ }
     ensures { λ r. ⌜ Drew (now (out .entry)) (entryOf pen) (atOf pen) (short machine ordinal (kindNumber «import_type») (typeNumber «name_type») (now (sym .entry)) (now (dll .entry)) (now (head .entry) ++ now (tail .entry)) ∷ []) (now (out .exit)) (entryOf r) (atOf r) ⌝ }
 {
-    let size = sizes::short_size(sym, dll, name_type, head, tail);
+    let size = extents::short_size(sym, dll, name_type, head, tail);
     if out.len() == 0 {
         return moved(pen, size);
     }
@@ -128,7 +126,7 @@ fn draw_descriptor(
     requires { ⌜ (length (now dll) ≤ 255) × IsStem (now stem) (now dll) ⌝ }
     ensures { λ r. ⌜ Drew (now (out .entry)) (entryOf pen) (atOf pen) (descriptor (machine .number) (now (dll .entry)) compat ∷ []) (now (out .exit)) (entryOf r) (atOf r) ⌝ }
 {
-    let size = sizes::descriptor_size(dll, stem, compat);
+    let size = extents::descriptor_size(dll, stem, compat);
     if out.len() == 0 {
         return moved(pen, size);
     }
@@ -150,7 +148,7 @@ fn draw_null_descriptor(
     requires { ⌜ length (now stem) ≤ 255 ⌝ }
     ensures { λ r. ⌜ Drew (now (out .entry)) (entryOf pen) (atOf pen) (nullDescriptor (machine .number) (compatStem compat (now (stem .entry))) ∷ []) (now (out .exit)) (entryOf r) (atOf r) ⌝ }
 {
-    let size = sizes::null_descriptor_size(stem, compat);
+    let size = extents::null_descriptor_size(stem, compat);
     if out.len() == 0 {
         return moved(pen, size);
     }
@@ -166,7 +164,7 @@ fn draw_thunk(out: &mut [u8], pen: u64, machine: Machine, stem: &[u8]) -> u64
     requires { ⌜ length (now stem) ≤ 255 ⌝ }
     ensures { λ r. ⌜ Drew (now (out .entry)) (entryOf pen) (atOf pen) (nullThunk (machine .number) (now (stem .entry)) ∷ []) (now (out .exit)) (entryOf r) (atOf r) ⌝ }
 {
-    let size = sizes::thunk_size(machine, stem);
+    let size = extents::thunk_size(machine, stem);
     if out.len() == 0 {
         return moved(pen, size);
     }

@@ -4,10 +4,11 @@ use native.Mathlib.Omega.{arith}
 use Rattle.laws.proofs.Totals.{stem-short}
 use Rattle.wire.proofs.Bytes.{not-true, not-false}
 use Rattle.format.specs.Reader.{ordinary}
+use Rattle.names.proofs.DllNames.{stem-part}
 use Rattle.reader.specs.Answers.{answer}
 use Rattle.reader.proofs.Answering.{barred, dll-most}
 use Rattle.reader.proofs.Admitting.{clear-as}
-use Rattle.reader.proofs.Guessing.{stem-part, descriptor-guessed, descriptor-barred}
+use Rattle.reader.proofs.Guessing.{descriptor-guessed, descriptor-barred}
 use borrow.Author.Needs.{needs}
 use Rattle.reader.proofs.read_descriptor.Statement.{statement}
 use Rattle.reader.proofs.read_descriptor.Tie as tie
@@ -20,32 +21,27 @@ returns c =
     let p = c .before .before .before .before .pre in
     barred _ _ (descriptor-barred _ (ap ordinary (sym (p .1)) ∙ p .0 .ordinary) (c .before .before .text .ensures) (sym (c .before .admits-dll .ensures) ∙ not-true _ (c .if1 .taken)))
 
-mul-compat : tie.Need-mul-compat
-mul-compat c =
-    let d = c .before .before .before .text .result .now in
-    let h = dll-most 255 d (sym (c .before .before .admits-dll .ensures) ∙ not-false _ (c .before .if1 .left)) (omega arith) in
-    omega (arith, h, c .stem .ensures .size, stem-short d)
-
-add-compat-2 : tie.Need-add-compat-2
-add-compat-2 c =
-    let d = c .before .before .before .text .result .now in
-    let h = dll-most 255 d (sym (c .before .before .admits-dll .ensures) ∙ not-false _ (c .before .if1 .left)) (omega arith) in
-    omega (arith, h, c .stem .ensures .size, stem-short d)
-
 part-requires : tie.Need-part-requires
 part-requires c κs = omega (arith, c .stem .ensures .size, stem-short (c .before .before .before .text .result .now))
 
+descriptor-size-requires : tie.Need-descriptor-size-requires
+descriptor-size-requires c κs =
+    let d = c .before .before .before .before .text .result .now in
+    let admitted = sym (c .before .before .before .admits-dll .ensures) ∙ not-false _ (c .before .before .if1 .left) in
+    (dll-most 255 d admitted (omega arith), stem-part (c .part .ensures) (c .before .stem .ensures))
+
 as-descriptor-requires : tie.Need-as-descriptor-requires
 as-descriptor-requires c κs =
-    (c .before .before .before .before .before .before .pre .0, (sym (c .before .before .before .admits-dll .ensures) ∙ not-false _ (c .before .before .if1 .left), stem-part (c .part .ensures) (c .before .stem .ensures)))
+    let s = c .before .before .before .before .before .before .before in
+    (s .pre .0, (sym (c .before .before .before .before .admits-dll .ensures) ∙ not-false _ (c .before .before .before .if1 .left), stem-part (c .before .part .ensures) (c .before .before .stem .ensures)))
 
 returns-2 : tie.Need-returns-2
 returns-2 c =
-    let s = c .before .before .before .before .before .before .before in
-    c .as-descriptor .ensures ∙ ap (answer (s .args .b .now)) (descriptor-guessed _ (s .pre .1) (c .before .before .before .before .before .text .ensures) (c .before .before .stem .ensures .size) refl)
+    let s = c .before .before .before .before .before .before .before .before in
+    c .as-descriptor .ensures ∙ ap (answer (s .args .b .now)) (descriptor-guessed _ (s .pre .1) (c .before .before .before .before .before .before .text .ensures) (c .before .descriptor-size .ensures _) refl)
 
 pub read-descriptor-spec : {M : Type 1} → statement M
 read-descriptor-spec =
     tie.close
-    (tie.spec (λ c κs. search needs) admits-dll-requires returns (λ c κs. search needs) (λ c. search needs) mul-compat
-    add-compat-2 part-requires as-descriptor-requires returns-2)
+    (tie.spec (λ c κs. search needs) admits-dll-requires returns (λ c κs. search needs) part-requires descriptor-size-requires
+    as-descriptor-requires returns-2)

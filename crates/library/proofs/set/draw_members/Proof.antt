@@ -5,7 +5,8 @@ use native.Mathlib.Omega.{arith}
 use lib.ListN.{length}
 use Rattle.laws.proofs.Totals.{stem-short}
 use Rattle.format.proofs.Listed.{listed}
-use Rattle.library.proofs.MemberSets.{stem-part, counts-small, set-fixed, set-first, set-native, set-drew, counted-by}
+use Rattle.names.proofs.DllNames.{stem-part}
+use Rattle.library.proofs.MemberSets.{counts-small, set-fixed, set-first, set-native, set-drew, counted-by}
 use borrow.Author.Needs.{needs}
 use Rattle.library.proofs.set.draw_members.Statement.{statement}
 use Rattle.library.proofs.set.draw_members.Tie as tie
@@ -23,7 +24,7 @@ add-both : tie.Need-add-both
 add-both c = let (f, n, _) = counts-small _ (c .before .before .before .before .before .before .before .pre .1 .0) (c .before .u32-at .ensures) (c .u32-at2 .ensures) in omega arith
 
 draw-fixed-requires : tie.Need-draw-fixed-requires
-draw-fixed-requires c κs = (set-fixed _ _ _ _ _ _ (c .before .before .before .before .before .before .before .before .pre .0), (c .before .before .before .before .before .before .before .before .pre .1 .1 .0, (c .before .before .before .before .before .before .before .before .pre .1 .1 .1, stem-part (c .before .before .before .before .stem .ensures) (c .before .before .before .part .ensures))))
+draw-fixed-requires c κs = (set-fixed _ _ _ _ _ _ (c .before .before .before .before .before .before .before .before .pre .0), (c .before .before .before .before .before .before .before .before .pre .1 .1 .0, (c .before .before .before .before .before .before .before .before .pre .1 .1 .1, stem-part (c .before .before .before .part .ensures) (c .before .before .before .before .stem .ensures))))
 
 draw-list-requires : tie.Need-draw-list-requires
 draw-list-requires c κs = let (f, n, s) = counts-small _ (c .before .before .before .before .before .before .before .before .before .before .before .before .pre .1 .0) (c .before .before .before .before .before .before .u32-at .ensures) (c .before .before .before .before .before .u32-at2 .ensures) in (set-first _ _ _ _ _ _ (c .before .before .before .before .before .before .before .before .before .before .before .before .pre .0) (c .before .before .before .draw-fixed .ensures) (c .before .before .before .before .before .before .u32-at .ensures), ((c .before .before .before .before .before .before .before .before .before .before .before .before .pre .1 .0), ((omega arith, omega arith), c .before .before .before .before .before .before .before .before .before .before .before .before .pre .1 .1 .1)))

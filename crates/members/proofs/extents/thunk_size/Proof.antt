@@ -1,9 +1,9 @@
--- `walks::sizes::thunk_size` meets its contract.
+-- `members::extents::thunk_size` meets its contract.
 use native.Mathlib.Omega.{arith}
 use Rattle.laws.proofs.Lengths.{length-encode-nullThunk}
 use borrow.Author.Needs.{needs}
-use Rattle.walks.proofs.sizes.thunk_size.Statement.{statement}
-use Rattle.walks.proofs.sizes.thunk_size.Tie as tie
+use Rattle.members.proofs.extents.thunk_size.Statement.{statement}
+use Rattle.members.proofs.extents.thunk_size.Tie as tie
 
 returns : tie.Need-returns
 returns c = omega (arith, c .slot-size .ensures .0, length-encode-nullThunk (c .before .before .args .machine .number) (c .before .before .args .stem .now))

@@ -1,6 +1,6 @@
 -- The sizes of members, each by what it is told.
 use Prim.Native.Nat.{ℕ, _+_, _*_}
-use mathlib.Core.Path.{_≡_, refl, sym, ap, _∙_}
+use mathlib.Core.Path.{_≡_, sym, _∙_}
 use mathlib.Core.Bool.{Bool, true, false}
 use mathlib.Core.List.{_++_}
 use native.Mathlib.Omega.{arith}
@@ -9,26 +9,25 @@ use lib.ListN.{length, length-append}
 use borrow.Author.Tests.{eq-eqb, ne-eqb}
 use Rattle.wire.specs.Bytes.{Bytes, if_then_else_}
 use Rattle.format.specs.Names.{stem}
-use Rattle.format.specs.Layouts.{descriptor, nullDescriptor, short, compatStem, encode}
+use Rattle.format.specs.Layouts.{descriptor, nullDescriptor, short, nullName, compatStem, encode}
 use Rattle.format.specs.Library.{imp}
-use Rattle.laws.proofs.Lengths.{length-encode-descriptor, length-encode-nullDescriptor-none, length-encode-nullDescriptor-some, length-encode-short, length-encode-weak}
+use Rattle.laws.proofs.Lengths.{length-descriptorName, length-thunkName, length-descriptorBytes, length-nullDescriptorBytes, length-encode-short, length-encode-weak}
 use Rattle.members.specs.Members.{weakOf}
 
-module _ (m : ℕ) (dll s : Bytes) (compat : Bool) (e : s ≡ stem dll) where
-  pub descriptor-compat : compat ≡ true → 345 + length dll + 2 * length s + length s + 1 ≡ length (encode (descriptor m dll compat))
-  descriptor-compat c = rw (c, e) (omega (arith, length-encode-descriptor m dll true))
+-- ---- with the name of a null import descriptor, of n bytes
 
-  pub descriptor-plain : compat ≡ false → 345 + length dll + 2 * length s ≡ length (encode (descriptor m dll compat))
-  descriptor-plain c = rw (c, e) (omega (arith, length-encode-descriptor m dll false))
+pub descriptor-extent : (m n : ℕ) (dll s : Bytes) (compat : Bool) → s ≡ stem dll → n ≡ length (nullName (compatStem compat s))
+    → 321 + n + length dll + 2 * length s ≡ length (encode (descriptor m dll compat))
+unfolding encode
+descriptor-extent m n dll s compat e f =
+    rw (f, e) (simp (length-descriptorBytes, length-descriptorName, length-thunkName) (omega arith))
 
-module _ (m : ℕ) (s : Bytes) (compat : Bool) where
-  pub null-compat : compat ≡ true → 127 + 1 + length s ≡ length (encode (nullDescriptor m (compatStem compat s)))
-  unfolding compatStem
-  null-compat c = rw c (omega (arith, length-encode-nullDescriptor-some m s))
+pub null-extent : (m n : ℕ) (s : Bytes) (compat : Bool) → n ≡ length (nullName (compatStem compat s))
+    → 103 + n ≡ length (encode (nullDescriptor m (compatStem compat s)))
+unfolding encode
+null-extent m n s compat f = rw f (simp length-nullDescriptorBytes)
 
-  pub null-plain : compat ≡ false → 127 ≡ length (encode (nullDescriptor m (compatStem compat s)))
-  unfolding compatStem
-  null-plain c = rw c (sym (length-encode-nullDescriptor-none m))
+-- ---- by the test for type 4
 
 module _ (m o k t n : ℕ) (s dll h x : Bytes) (e : n ≡ t) where
   pub short-exported : n ≡ 4 → 22 + length s + length dll + length h + length x + 1 ≡ length (encode (short m o k t s dll (h ++ x)))
@@ -40,6 +39,8 @@ module _ (m o k t n : ℕ) (s dll h x : Bytes) (e : n ≡ t) where
   short-plain q =
       let other : eqb t 4 ≡ false = ne-eqb t 4 (λ p. q (e ∙ p)) in
       omega (arith, rw other at (length-encode-short m o k t s dll (h ++ x)))
+
+-- ---- by the flag for the prefix
 
 module _ (m : ℕ) (s w : Bytes) (prefixed : Bool) where
   pub weak-prefixed : prefixed ≡ true → 156 + length s + length w + 12 ≡ length (encode (weakOf m prefixed s w))

@@ -1,17 +1,22 @@
 // How many bytes each member has.
+use crate::EXPORT_AS;
+use crate::IMP_PREFIX;
+use crate::layouts::DATA_AT_1;
+use crate::layouts::DATA_AT_2;
+use crate::layouts::DESCRIPTOR_SYMBOLS;
+use crate::layouts::DLL_AT;
+use crate::layouts::NULL_SYMBOLS_AT;
+use crate::layouts::WEAK_SYMBOLS;
+use crate::tables;
+use crate::tables::IMPORT_DESCRIPTOR_PREFIX;
+use crate::tables::NUL;
+use crate::tables::NULL_THUNK_DATA;
+use crate::tables::STRINGS_AT;
+use crate::widths;
 use coff::import::ImportNameType;
 use coff::machines::Machine;
-use coff::records::FileHeader;
-use coff::records::ImportDescriptor;
 use coff::records::ImportObjectHeader;
-use coff::records::Section;
 use coff::records::Symbol;
-use members::layouts::DATA_AT_1;
-use members::layouts::DATA_AT_2;
-use members::layouts::DLL_AT;
-use members::tables::NUL;
-use members::tables::STRINGS_AT;
-use members::widths;
 ghost use mathlib.Core.Path.{_≡_};
 ghost use mathlib.Core.List.{_++_};
 ghost use Prim.Native.Nat.{ℕ, _≤_};
@@ -19,51 +24,44 @@ ghost use lib.ListN.{length};
 ghost use Rattle.format.specs.Layouts.{descriptor, nullDescriptor, nullThunk, short, compatStem, encode};
 ghost use Rattle.coff.specs.Import.{typeNumber};
 ghost use Rattle.coff.specs.Machines.{IsMachine};
 ghost use Rattle.members.specs.Members.{IsStem, weakOf};
 
-// The number of NameExportas.
-const EXPORT_AS: u16 = 4;
-
-// What each member has beside its names: the records, the head of the string table, the NULs, and what its names begin or end with.
-const DESCRIPTOR: usize = DLL_AT + 7 * Symbol::SIZE + STRINGS_AT + 4 * NUL + 20 + 24 + 17;
-
-const NULL_DESCRIPTOR: usize = DATA_AT_1
-    + ImportDescriptor::SIZE
-    + Symbol::SIZE
+// What each member has beside its names: the records, the head of the string table, the NULs, and what its names begin or end
+// with. The name of a null import descriptor is counted by its own function.
+const DESCRIPTOR: usize = DLL_AT
+    + (DESCRIPTOR_SYMBOLS as usize) * Symbol::SIZE
     + STRINGS_AT
-    + NUL
-    + 24;
+    + IMPORT_DESCRIPTOR_PREFIX.len()
+    + NULL_THUNK_DATA
+    + 4 * NUL;
 
-const NULL_THUNK: usize = DATA_AT_2 + Symbol::SIZE + STRINGS_AT + NUL + 17;
+const NULL_DESCRIPTOR: usize = NULL_SYMBOLS_AT + Symbol::SIZE + STRINGS_AT + NUL;
+
+const NULL_THUNK: usize = DATA_AT_2 + Symbol::SIZE + STRINGS_AT + NULL_THUNK_DATA + NUL;
 
 const SHORT: usize = ImportObjectHeader::SIZE + 2 * NUL;
 
-const WEAK: usize = DATA_AT_1 + 5 * Symbol::SIZE + STRINGS_AT + 2 * NUL;
+const WEAK: usize = DATA_AT_1 + (WEAK_SYMBOLS as usize) * Symbol::SIZE + STRINGS_AT + 2 * NUL;
 
-// The length of `__imp_`.
-const IMP: usize = 6;
-
+// An import descriptor, by the DLL name and its stem.
 pub fn descriptor_size(dll: &[u8], stem: &[u8], compat: bool) -> usize
-    requires { ⌜ (length (now dll) ≤ 255) × IsStem (now stem) (now dll) ⌝ }
+    requires { ⌜ length (now dll) ≤ 255 ⌝ }
+    requires { ⌜ IsStem (now stem) (now dll) ⌝ }
     ensures { λ r. ⌜ ((m : ℕ) → r ≡ length (encode (descriptor m (now (dll .entry)) compat))) ⌝ }
 {
-    let plain = DESCRIPTOR + dll.len() + 2 * stem.len();
-    if compat {
-        return plain + stem.len() + 1;
-    }
-    plain
+    let null_len = tables::null_name_len(stem, compat);
+    DESCRIPTOR + null_len + dll.len() + 2 * stem.len()
 }
 
+// A null import descriptor, by the stem that its name ends in under compat.
 pub fn null_descriptor_size(stem: &[u8], compat: bool) -> usize
     requires { ⌜ length (now stem) ≤ 255 ⌝ }
     ensures { λ r. ⌜ ((m : ℕ) → r ≡ length (encode (nullDescriptor m (compatStem compat (now (stem .entry)))))) ⌝ }
 {
-    if compat {
-        return NULL_DESCRIPTOR + 1 + stem.len();
-    }
-    NULL_DESCRIPTOR
+    NULL_DESCRIPTOR + tables::null_name_len(stem, compat)
 }
 
+// A null thunk.
 pub fn thunk_size(machine: Machine, stem: &[u8]) -> usize
     requires { ⌜ IsMachine machine ⌝ }
     requires { ⌜ length (now stem) ≤ 255 ⌝ }
@@ -72,6 +70,7 @@ pub fn thunk_size(machine: Machine, stem: &[u8]) -> usize
     NULL_THUNK + 2 * (widths::slot_size(machine) as usize) + stem.len()
 }
 
+// A short import. The export string, of two pieces, counts only for NameExportas.
 pub fn short_size(
     sym: &[u8],
     dll: &[u8],
@@ -90,13 +89,14 @@ pub fn short_size(
     plain
 }
 
+// A weak external. With imp both names begin with `__imp_`.
 pub fn weak_size(sym: &[u8], weak: &[u8], imp: bool) -> usize
     requires { ⌜ (length (now sym) ≤ 65536) × (length (now weak) ≤ 65536) ⌝ }
     ensures { λ r. ⌜ ((m : ℕ) → r ≡ length (encode (weakOf m imp (now (sym .entry)) (now (weak .entry))))) ⌝ }
 {
     let plain = WEAK + sym.len() + weak.len();
     if imp {
-        return plain + 2 * IMP;
+        return plain + 2 * IMP_PREFIX.len();
     }
     plain
 }

@@ -1,10 +1,8 @@
--- `walks::sizes::short_size` meets its contract.
-use mathlib.Core.Path.{sym, ap, _∙_}
-use Rattle.walks.proofs.SizeCases.{short-exported, short-plain}
-use Rattle.walks.proofs.SizeCases.{short-exported, short-plain}
+-- `members::extents::short_size` meets its contract.
+use Rattle.members.proofs.Extending.{short-exported, short-plain}
 use borrow.Author.Needs.{needs}
-use Rattle.walks.proofs.sizes.short_size.Statement.{statement}
-use Rattle.walks.proofs.sizes.short_size.Tie as tie
+use Rattle.members.proofs.extents.short_size.Statement.{statement}
+use Rattle.members.proofs.extents.short_size.Tie as tie
 
 returns : tie.Need-returns
 returns c = λ m o k. short-exported m o k _ _ _ _ (c .before .before .before .before .before .before .args .head .now) (c .before .before .before .before .before .before .args .tail .now) (c .before .number .ensures) (c .if1 .taken)

@@ -1,9 +1,8 @@
--- `walks::sizes::weak_size` meets its contract.
-use Rattle.walks.proofs.SizeCases.{weak-prefixed, weak-plain}
-use Rattle.walks.proofs.SizeCases.{weak-prefixed, weak-plain}
+-- `members::extents::weak_size` meets its contract.
+use Rattle.members.proofs.Extending.{weak-prefixed, weak-plain}
 use borrow.Author.Needs.{needs}
-use Rattle.walks.proofs.sizes.weak_size.Statement.{statement}
-use Rattle.walks.proofs.sizes.weak_size.Tie as tie
+use Rattle.members.proofs.extents.weak_size.Statement.{statement}
+use Rattle.members.proofs.extents.weak_size.Tie as tie
 
 returns : tie.Need-returns
 returns c = λ m. weak-prefixed m _ _ _ (c .if1 .taken)

@@ -1,0 +1,11 @@
+-- `members::extents::null_descriptor_size` meets its contract.
+use Rattle.members.proofs.Extending.{null-extent}
+use borrow.Author.Needs.{needs}
+use Rattle.members.proofs.extents.null_descriptor_size.Statement.{statement}
+use Rattle.members.proofs.extents.null_descriptor_size.Tie as tie
+
+returns : tie.Need-returns
+returns c = λ m. null-extent m _ (c .before .before .args .stem .now) (c .before .before .args .compat) (c .null-name-len .ensures .0)
+
+pub null-descriptor-size-spec : {M : Type 1} → statement M
+null-descriptor-size-spec = tie.close (tie.spec (λ c κs. search needs) (λ c. search needs) returns)
