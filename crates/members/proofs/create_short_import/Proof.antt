@@ -7,8 +7,11 @@ use borrow.Author.Needs.{needs}
 use Rattle.members.proofs.create_short_import.Statement.{statement}
 use Rattle.members.proofs.create_short_import.Tie as tie
 
+-- either of the two numbers would fit above the other: which one stands there is told by what is returned
 mul-types : tie.Need-mul-types
-mul-types c = omega (arith, c .number .ensures, type-small (c .before .before .before .before .before .before .args .name-type))
+mul-types c =
+    let a = c .before .before .before .before .before .before .args in
+    omega (arith, c .number .ensures, type-small (a .name-type), kind-small (a .import-type))
 
 add-types : tie.Need-add-types
 add-types c =
