@@ -5,16 +5,12 @@ use oracle::ask::{ARM64EC, I386};
 use oracle::list::{CONSTANT, DATA, NONAME, PRIVATE};
 
 use crate::judge::same;
-use crate::member_set::{DATA_KIND, IMP, short_symbols};
+use crate::member_set::{IMP, short_symbols};
+use crate::pe::{
+    IMPORT_CODE, IMPORT_CONST, IMPORT_DATA, IMPORT_NAME, IMPORT_NAME_EXPORTAS,
+    IMPORT_NAME_NOPREFIX, IMPORT_NAME_UNDECORATE, IMPORT_ORDINAL,
+};
 use crate::plain::{apply_name_type, demangled, get_name_type, replace};
-
-const ORDINAL: u16 = 0;
-const NAME: u16 = 1;
-const NOPREFIX: u16 = 2;
-const UNDECORATE: u16 = 3;
-const EXPORTAS: u16 = 4;
-const CODE_KIND: u16 = 0;
-const CONST_KIND: u16 = 2;
 
 /// Where a symbol is to lead: an entry of the DLL by its ordinal or its name, nowhere, or no member has it.
 #[derive(Clone, Debug, PartialEq)]
@@ -54,13 +50,13 @@ impl<'a> Export<'a> {
         };
         let gives = |name_type, wanted: &[u8]| apply_name_type(name_type, &public) == wanted;
         let name_type = match (&record.export_as, &record.import_name) {
-            _ if record.has(NONAME) => Some(ORDINAL),
-            (Some(_), _) => Some(EXPORTAS),
+            _ if record.has(NONAME) => Some(IMPORT_ORDINAL),
+            (Some(_), _) => Some(IMPORT_NAME_EXPORTAS),
             (None, Some(wanted)) => match maker.machine {
-                I386 if gives(UNDECORATE, wanted) => Some(UNDECORATE),
-                I386 if gives(NOPREFIX, wanted) => Some(NOPREFIX),
-                ARM64EC => Some(EXPORTAS),
-                _ => (public == *wanted).then_some(NAME),
+                I386 if gives(IMPORT_NAME_UNDECORATE, wanted) => Some(IMPORT_NAME_UNDECORATE),
+                I386 if gives(IMPORT_NAME_NOPREFIX, wanted) => Some(IMPORT_NAME_NOPREFIX),
+                ARM64EC => Some(IMPORT_NAME_EXPORTAS),
+                _ => (public == *wanted).then_some(IMPORT_NAME),
             },
             (None, None) => Some(get_name_type(base, name, maker.machine, maker.mingw)),
         };
@@ -74,14 +70,14 @@ impl<'a> Export<'a> {
 
     fn kind(&self) -> u16 {
         match (self.record.has(CONSTANT), self.record.has(DATA)) {
-            (true, _) => CONST_KIND,
-            (false, true) => DATA_KIND,
-            _ => CODE_KIND,
+            (true, _) => IMPORT_CONST,
+            (false, true) => IMPORT_DATA,
+            _ => IMPORT_CODE,
         }
     }
 
     fn is_hybrid_code(&self) -> bool {
-        self.maker.machine == ARM64EC && self.kind() == CODE_KIND
+        self.maker.machine == ARM64EC && self.kind() == IMPORT_CODE
     }
 
     /// The symbol of its short import.
@@ -122,9 +118,9 @@ impl<'a> Export<'a> {
     /// Of an alias: the public name with `__imp_`, and if code without, which leads nowhere where the import is data.
     fn alias_leadings(&self, import: &Export<'_>) -> Vec<Leading> {
         let mut leadings = vec![([IMP, &self.public].concat(), import.asks())];
-        if self.kind() == CODE_KIND {
+        if self.kind() == IMPORT_CODE {
             let place = match import.kind() {
-                DATA_KIND => Where::Nowhere,
+                IMPORT_DATA => Where::Nowhere,
                 _ => import.asks(),
             };
             leadings.push((self.public.clone(), place));

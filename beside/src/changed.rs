@@ -4,10 +4,10 @@ use oracle::ask::ARM64EC;
 use oracle::rng::Rng;
 
 use crate::content::{
-    CONST_KIND, Content, EXPORTAS, LONGEST_DLL, LONGEST_SHORT, LONGEST_WEAK, OBJECT_MACHINES,
-    SHORT_MACHINES, Short,
+    Content, LONGEST_DLL, LONGEST_SHORT, LONGEST_WEAK, OBJECT_MACHINES, SHORT_MACHINES, Short,
 };
 use crate::judge::Difference;
+use crate::pe::{IMPORT_CONST, IMPORT_NAME_EXPORTAS};
 use crate::plain::stem;
 use crate::reads;
 
@@ -64,7 +64,8 @@ pub fn changed(count: u64, seed: u64) -> Result<String, Difference> {
 fn samples() -> Vec<Content<'static>> {
     let objects = OBJECT_MACHINES.into_iter().flat_map(object_samples);
     let shorts = SHORT_MACHINES.into_iter().flat_map(|machine| {
-        (0..=4 * EXPORTAS + CONST_KIND).filter_map(move |types| short_sample(machine, types))
+        (0..=4 * IMPORT_NAME_EXPORTAS + IMPORT_CONST)
+            .filter_map(move |types| short_sample(machine, types))
     });
     objects.chain(shorts).collect()
 }
@@ -104,18 +105,18 @@ fn short_sample(machine: u32, types: u16) -> Option<Content<'static>> {
     let (name_type, kind) = (types >> 2, types & 3);
     let symbol: &[u8] = match (machine, kind) {
         (ARM64EC, 0) => b"#att_step",
-        (_, CONST_KIND) => b"f",
+        (_, IMPORT_CONST) => b"f",
         _ => b"_att_step@8",
     };
     let export: &[u8] = if kind == 1 { b"" } else { b"att" };
-    (kind <= CONST_KIND).then_some(Content::ShortImport(Short {
+    (kind <= IMPORT_CONST).then_some(Content::ShortImport(Short {
         machine,
         ordinal: types * 0x0D03,
         name_type,
         kind,
         symbol,
         dll: DLLS[usize::from(types) % DLLS.len()],
-        export: (name_type == EXPORTAS).then_some(export),
+        export: (name_type == IMPORT_NAME_EXPORTAS).then_some(export),
     }))
 }
 
@@ -190,7 +191,7 @@ fn content<'a>(rng: &mut Rng, names: &'a Names) -> Content<'a> {
             kind: rng.below(3) as u16,
             symbol: &names.short[0],
             dll: &names.dll,
-            export: (name_type == EXPORTAS).then_some(&names.short[1]),
+            export: (name_type == IMPORT_NAME_EXPORTAS).then_some(&names.short[1]),
         }),
     }
 }

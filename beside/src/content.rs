@@ -3,6 +3,7 @@
 
 use oracle::ask::{AMD64, ARM64, ARM64EC, ARMNT, I386};
 
+use crate::pe::{IMPORT_CONST, IMPORT_NAME_EXPORTAS};
 use crate::plain::{self, Factory, Pen};
 
 /// Machines of every layout; short imports have one more.
@@ -12,8 +13,6 @@ pub const SHORT_MACHINES: [u32; 5] = [I386, ARMNT, AMD64, ARM64, ARM64EC];
 pub const LONGEST_DLL: usize = 255;
 pub const LONGEST_SHORT: usize = 8190;
 pub const LONGEST_WEAK: usize = 8195;
-pub const EXPORTAS: u16 = 4;
-pub const CONST_KIND: u16 = 2;
 
 /// How many fields a reader fills: machine, ordinal, type, kind, compat, and the start and length of three names.
 pub const FIELDS: usize = 11;
@@ -78,11 +77,11 @@ impl Short<'_> {
 
     fn is_admitted(&self) -> bool {
         SHORT_MACHINES.contains(&self.machine)
-            && self.name_type <= EXPORTAS
-            && self.kind <= CONST_KIND
+            && self.name_type <= IMPORT_NAME_EXPORTAS
+            && self.kind <= IMPORT_CONST
             && is_name(self.symbol, 1, LONGEST_SHORT)
             && is_dll(self.dll)
-            && self.export.is_some() == (self.name_type == EXPORTAS)
+            && self.export.is_some() == (self.name_type == IMPORT_NAME_EXPORTAS)
             && self
                 .export
                 .is_none_or(|export| is_name(export, 0, LONGEST_SHORT))
@@ -325,7 +324,7 @@ fn short_import(member: &[u8]) -> Option<Content<'_>> {
     let dll_at = SHORT_HEADER + symbol.len() + 1;
     let dll = text(member, dll_at)?;
     let export = match types >> 2 {
-        EXPORTAS => Some(text(member, dll_at + dll.len() + 1)?),
+        IMPORT_NAME_EXPORTAS => Some(text(member, dll_at + dll.len() + 1)?),
         _ => None,
     };
     Some(Content::ShortImport(Short {

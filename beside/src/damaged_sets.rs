@@ -8,10 +8,11 @@ use oracle::rng::Rng;
 use oracle::set::{ENTRY_SIZE, HEADER_SIZE};
 use oracle::{Case, Record};
 
-use crate::content::{Content, EXPORTAS, Short};
+use crate::content::{Content, Short};
 use crate::judge::{Difference, wanted};
 use crate::looks::Question;
 use crate::order::word;
+use crate::pe::IMPORT_NAME_EXPORTAS;
 use crate::reads;
 
 const STRANGER: &[u8] = b"__imp_stranger";
@@ -147,7 +148,7 @@ fn unwritten(set: &[u8]) -> Result<Vec<u8>, Difference> {
             kind: 0,
             symbol,
             dll: b"b.dll",
-            export: (name_type == EXPORTAS).then_some(b""),
+            export: (name_type == IMPORT_NAME_EXPORTAS).then_some(b""),
         };
         Content::ShortImport(short).encode()
     };

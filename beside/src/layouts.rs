@@ -7,6 +7,11 @@ use oracle::list::{CONSTANT, DATA, NONAME, PRIVATE, encode_list};
 use crate::judge::{Difference, same};
 use crate::library;
 use crate::pe::*;
+use crate::pe::{
+    IMPORT_CODE as CODE_KIND, IMPORT_CONST as CONST_KIND, IMPORT_DATA as DATA_KIND,
+    IMPORT_NAME as NAME, IMPORT_NAME_EXPORTAS as EXPORTAS, IMPORT_NAME_NOPREFIX as NOPREFIX,
+    IMPORT_NAME_UNDECORATE as UNDECORATE, IMPORT_ORDINAL as ORDINAL,
+};
 
 const ROOM: usize = 1 << 16;
 const STEMS: [(&str, &str); 5] = [
@@ -18,14 +23,6 @@ const STEMS: [(&str, &str); 5] = [
 ];
 const DATA_SECTION: u32 = IMAGE_SCN_CNT_INITIALIZED_DATA | IMAGE_SCN_MEM_READ | IMAGE_SCN_MEM_WRITE;
 const NULL_DESCRIPTOR: &str = "__NULL_IMPORT_DESCRIPTOR";
-const ORDINAL: u16 = 0;
-const NAME: u16 = 1;
-const NOPREFIX: u16 = 2;
-const UNDECORATE: u16 = 3;
-const EXPORTAS: u16 = 4;
-const CODE_KIND: u16 = 0;
-const DATA_KIND: u16 = 1;
-const CONST_KIND: u16 = 2;
 
 /// A member as the document reads it.
 #[derive(Debug, PartialEq)]

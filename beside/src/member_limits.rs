@@ -2,18 +2,16 @@
 
 use oracle::ask::{AMD64, ARM64EC, ARM64X, MACHINES};
 
-use crate::content::{
-    CONST_KIND, Content, EXPORTAS, LONGEST_DLL, LONGEST_SHORT, LONGEST_WEAK, Short,
-};
+use crate::content::{Content, LONGEST_DLL, LONGEST_SHORT, LONGEST_WEAK, Short};
 use crate::judge::{Difference, same, shown};
+use crate::pe::{IMPORT_CONST, IMPORT_NAME, IMPORT_NAME_EXPORTAS};
 use crate::plain::stem;
 use crate::reads;
 
-const NAME: u16 = 1;
 const SHORT: Short = Short {
     machine: AMD64,
     ordinal: 65535,
-    name_type: NAME,
+    name_type: IMPORT_NAME,
     kind: 0,
     symbol: b"a",
     dll: b"a.dll",
@@ -107,7 +105,11 @@ fn null_thunk(stem: &[u8]) -> Content<'_> {
 
 fn short<'a>(symbol: &'a [u8], dll: &'a [u8], export: Option<&'a [u8]>) -> Content<'a> {
     Content::ShortImport(Short {
-        name_type: if export.is_some() { EXPORTAS } else { NAME },
+        name_type: if export.is_some() {
+            IMPORT_NAME_EXPORTAS
+        } else {
+            IMPORT_NAME
+        },
         symbol,
         dll,
         export,
@@ -246,8 +248,9 @@ fn types(rows: &mut Rows) -> Result<(), Difference> {
                 export,
                 ..SHORT
             });
-            let has_its_strings = export.is_some() == (name_type == EXPORTAS);
-            let is_taken = name_type <= EXPORTAS && kind <= CONST_KIND && has_its_strings;
+            let has_its_strings = export.is_some() == (name_type == IMPORT_NAME_EXPORTAS);
+            let is_taken =
+                name_type <= IMPORT_NAME_EXPORTAS && kind <= IMPORT_CONST && has_its_strings;
             rows.either(is_taken, content)?;
         }
     }

@@ -5,16 +5,15 @@ use std::collections::BTreeMap;
 use oracle::ask::{ARM64EC, FIXED_MEMBERS};
 use oracle::set::HEADER_SIZE;
 
-use crate::content::{Content, EXPORTAS, Short};
+use crate::content::{Content, Short};
 use crate::order::word;
+use crate::pe::{
+    IMPORT_DATA, IMPORT_NAME_EXPORTAS, IMPORT_NAME_NOPREFIX, IMPORT_NAME_UNDECORATE, IMPORT_ORDINAL,
+};
 use crate::{layouts, plain};
 
 pub const IMP: &[u8] = b"__imp_";
 const IMP_AUX: &[u8] = b"__imp_aux_";
-pub const DATA_KIND: u16 = 1;
-const ORDINAL: u16 = 0;
-const NOPREFIX: u16 = 2;
-const UNDECORATE: u16 = 3;
 
 /// Where the fields of a reader have the start of a short import's symbol, and that of its export string.
 const SYMBOL_FIELD: usize = 5;
@@ -40,7 +39,7 @@ fn shown(machine: u32, symbol: &[u8]) -> Vec<u8> {
 pub fn short_symbols(machine: u32, kind: u16, symbol: &[u8]) -> Vec<Vec<u8>> {
     let shown = shown(machine, symbol);
     let mut symbols = vec![[IMP, &shown].concat()];
-    if kind != DATA_KIND {
+    if kind != IMPORT_DATA {
         symbols.push(shown.clone());
         if machine == ARM64EC {
             symbols.push([IMP_AUX, &shown].concat());
@@ -86,10 +85,10 @@ impl Placed<'_> {
         let fields = self.content.told().fields;
         let start = |field: usize| self.at as u32 + fields[field];
         match short.name_type {
-            ORDINAL => Looked::Ordinal(short.ordinal.into()),
-            EXPORTAS => Looked::Name(start(EXPORT_FIELD), fields[EXPORT_FIELD + 1]),
+            IMPORT_ORDINAL => Looked::Ordinal(short.ordinal.into()),
+            IMPORT_NAME_EXPORTAS => Looked::Name(start(EXPORT_FIELD), fields[EXPORT_FIELD + 1]),
             name_type => {
-                let is_dropped = matches!(name_type, NOPREFIX | UNDECORATE)
+                let is_dropped = matches!(name_type, IMPORT_NAME_NOPREFIX | IMPORT_NAME_UNDECORATE)
                     && matches!(short.symbol[0], b'?' | b'@' | b'_');
                 let name = plain::apply_name_type(name_type, short.symbol);
                 Looked::Name(

@@ -30,6 +30,16 @@ pub const IMAGE_WEAK_EXTERN_SEARCH_ALIAS: u32 = 3;
 
 pub const IMPORT_OBJECT_HDR_SIG2: u16 = 0xFFFF;
 
+pub const IMPORT_CODE: u16 = 0;
+pub const IMPORT_DATA: u16 = 1;
+pub const IMPORT_CONST: u16 = 2;
+
+pub const IMPORT_ORDINAL: u16 = 0;
+pub const IMPORT_NAME: u16 = 1;
+pub const IMPORT_NAME_NOPREFIX: u16 = 2;
+pub const IMPORT_NAME_UNDECORATE: u16 = 3;
+pub const IMPORT_NAME_EXPORTAS: u16 = 4;
+
 const FILE_HEADER: usize = 20;
 const SECTION_HEADER: usize = 40;
 const RELOCATION: usize = 10;

@@ -9,6 +9,9 @@ use oracle::list::{CONSTANT, DATA, NONAME, PRIVATE, RECORD_SIZE};
 use oracle::{list, set};
 
 use crate::order::{self, Refusal, word};
+use crate::pe::{
+    IMPORT_NAME, IMPORT_NAME_EXPORTAS, IMPORT_NAME_NOPREFIX, IMPORT_NAME_UNDECORATE, IMPORT_ORDINAL,
+};
 
 const FILE_HEADER: usize = 20;
 const SECTION: usize = 40;
@@ -27,12 +30,6 @@ const EXTERNAL: u8 = 2;
 const STATIC: u8 = 3;
 const SECTION_CLASS: u8 = 104;
 const WEAK_EXTERNAL: u8 = 105;
-
-const ORDINAL: u16 = 0;
-const NAME: u16 = 1;
-const NOPREFIX: u16 = 2;
-const UNDECORATE: u16 = 3;
-const EXPORTAS: u16 = 4;
 
 const CODE: u16 = 0;
 
@@ -154,8 +151,8 @@ pub fn apply_name_type(name_type: u16, name: &[u8]) -> &[u8] {
         name => name,
     };
     match name_type {
-        NOPREFIX => trimmed,
-        UNDECORATE => match find(trimmed, b"@") {
+        IMPORT_NAME_NOPREFIX => trimmed,
+        IMPORT_NAME_UNDECORATE => match find(trimmed, b"@") {
             Some(at) => &trimmed[..at],
             None => trimmed,
         },
@@ -165,13 +162,13 @@ pub fn apply_name_type(name_type: u16, name: &[u8]) -> &[u8] {
 
 pub fn get_name_type(base: &[u8], name: &[u8], machine: u32, mingw: bool) -> u16 {
     if name.starts_with(b"_") && name.contains(&b'@') && !mingw {
-        NAME
+        IMPORT_NAME
     } else if base != name {
-        UNDECORATE
+        IMPORT_NAME_UNDECORATE
     } else if machine == I386 && base.starts_with(b"_") {
-        NOPREFIX
+        IMPORT_NAME_NOPREFIX
     } else {
-        NAME
+        IMPORT_NAME
     }
 }
 
@@ -196,7 +193,7 @@ struct Import<'a> {
 impl<'a> Import<'a> {
     /// ARM64EC code: the name gets its `#`, and a free import its export string.
     fn mangle(&mut self) -> Result<(), u32> {
-        let free = self.name_type != ORDINAL && self.export.is_none();
+        let free = self.name_type != IMPORT_ORDINAL && self.export.is_none();
         let plain = !matches!(self.name[0], b'?' | b'#');
         let tagged = self.name[0] == b'#' || find(&self.name, b"$$h").is_some();
         let export = match (free, plain, tagged) {
@@ -210,7 +207,7 @@ impl<'a> Import<'a> {
         }
         if free {
             self.export = export;
-            self.name_type = EXPORTAS;
+            self.name_type = IMPORT_NAME_EXPORTAS;
         }
         Ok(())
     }
@@ -283,10 +280,10 @@ impl<'a> Part<'a> {
     /// The name type and the export string, or nothing for an export that waits.
     fn name_type(&self, export: &Export<'a>, name: &[u8]) -> Option<(u16, Option<&'a [u8]>)> {
         if export.has(NONAME) {
-            return Some((ORDINAL, None));
+            return Some((IMPORT_ORDINAL, None));
         }
         if export.export_as.is_some() {
-            return Some((EXPORTAS, export.export_as));
+            return Some((IMPORT_NAME_EXPORTAS, export.export_as));
         }
         let Some(wanted) = export.import_name else {
             let name_type = get_name_type(export.base(), export.name, self.machine, self.mingw);
@@ -294,10 +291,10 @@ impl<'a> Part<'a> {
         };
         let gives = |name_type| apply_name_type(name_type, name) == wanted;
         match self.machine {
-            I386 if gives(UNDECORATE) => Some((UNDECORATE, None)),
-            I386 if gives(NOPREFIX) => Some((NOPREFIX, None)),
-            ARM64EC => Some((EXPORTAS, export.import_name)),
-            _ => gives(NAME).then_some((NAME, None)),
+            I386 if gives(IMPORT_NAME_UNDECORATE) => Some((IMPORT_NAME_UNDECORATE, None)),
+            I386 if gives(IMPORT_NAME_NOPREFIX) => Some((IMPORT_NAME_NOPREFIX, None)),
+            ARM64EC => Some((IMPORT_NAME_EXPORTAS, export.import_name)),
+            _ => gives(IMPORT_NAME).then_some((IMPORT_NAME, None)),
         }
     }
 
@@ -342,7 +339,7 @@ impl<'a> Part<'a> {
             machine: self.machine,
             symbol: &deferred.name,
             export: Some(deferred.wanted),
-            name_type: EXPORTAS,
+            name_type: IMPORT_NAME_EXPORTAS,
             kind: deferred.kind,
             ordinal: deferred.ordinal,
         }

@@ -5,7 +5,8 @@ use std::ops::RangeInclusive;
 
 use oracle::ask::{AMD64, ARM64, ARM64EC, ARMNT, I386};
 
-use crate::content::{CONST_KIND, EXPORTAS, LONGEST_DLL, LONGEST_SHORT, LONGEST_WEAK, Read};
+use crate::content::{LONGEST_DLL, LONGEST_SHORT, LONGEST_WEAK, Read};
+use crate::pe::{IMPORT_CONST, IMPORT_NAME_EXPORTAS};
 use crate::plain::stem;
 
 const DESCRIPTOR: usize = 20;
@@ -170,13 +171,13 @@ fn short_import(mut eye: Eye<'_>) -> Option<Read> {
     }
     let (ordinal, types) = (eye.short()?, eye.short()?);
     let (name_type, kind) = (types >> 2, types & 3);
-    if name_type > EXPORTAS || kind > CONST_KIND {
+    if name_type > IMPORT_NAME_EXPORTAS || kind > IMPORT_CONST {
         return None;
     }
     let symbol = eye.string(1..=LONGEST_SHORT)?;
     let dll = eye.dll()?;
     let export = match name_type {
-        EXPORTAS => eye.string(0..=LONGEST_SHORT)?,
+        IMPORT_NAME_EXPORTAS => eye.string(0..=LONGEST_SHORT)?,
         _ => NO_NAME,
     };
     eye.end()?;

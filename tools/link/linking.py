@@ -33,6 +33,15 @@ class Differs(Exception):
     """A symbol leads elsewhere, or a tool fails."""
 
 
+def told(tests):
+    """Runs tests; a difference is told, and is a failure."""
+    try:
+        tests()
+    except Differs as difference:
+        print(f"difference: {difference}")
+        sys.exit(1)
+
+
 def run(*words, check=True):
     """Runs a program and returns what it wrote; a failure is a difference."""
     done = subprocess.run([str(word) for word in words], capture_output=True, text=True, check=False)
@@ -263,8 +272,4 @@ def main():
 
 
 if __name__ == "__main__":
-    try:
-        main()
-    except Differs as difference:
-        print(f"difference: {difference}")
-        sys.exit(1)
+    told(main)

@@ -4,13 +4,12 @@
 tools/link-test runs this, with examples/ among Python's paths.
 """
 
-import sys
 import tempfile
 from pathlib import Path
 
 import archive
 import lists
-from linking import COMMAND, Differs, llvm, run
+from linking import COMMAND, Differs, llvm, run, told
 
 EACH = 24
 SHORT_HEADER = 20
@@ -151,8 +150,4 @@ def main():
 
 
 if __name__ == "__main__":
-    try:
-        main()
-    except Differs as difference:
-        print(f"difference: {difference}")
-        sys.exit(1)
+    told(main)

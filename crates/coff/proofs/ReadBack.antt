@@ -1,6 +1,6 @@
 -- The reader of each record undoes its writer: where a record's bytes stand, the record at that place is that record.
 use Prim.Native.Nat.{ℕ, _+_, _<_, _≤_}
-use mathlib.Core.Path.{_≡_, refl, sym, ap, _∙_}
+use mathlib.Core.Path.{_≡_, sym, ap, _∙_}
 use mathlib.Core.List.{_++_}
 use native.Mathlib.Omega.{arith}
 use lib.ListN.{length, drop, getD, length-append}
@@ -15,7 +15,7 @@ use Rattle.coff.specs.declared.records.Section.{Section}
 use Rattle.coff.specs.declared.records.Relocation.{Relocation}
 use Rattle.coff.specs.declared.records.Symbol.{Symbol}
 use Rattle.coff.specs.declared.records.ImportObjectHeader.{ImportObjectHeader}
-use Rattle.coff.specs.Records.{fileHeaderBytes, fileHeaderAt, sectionBytes, sectionAt, relocationBytes, relocationAt, symbolBytes, symbolAt, signed, importHeaderBytes, importHeaderAt}
+use Rattle.coff.specs.Records.{fileHeaderBytes, fileHeaderAt, sectionBytes, sectionAt, relocationBytes, relocationAt, symbolBytes, symbolAt, importHeaderBytes, importHeaderAt}
 use Rattle.coff.proofs.Words.{word-small, signed-word}
 use Rattle.coff.proofs.Fields.{drop-further, byte-there, part-there, u16-there, u32-there, wrote-has}
 

@@ -1,6 +1,6 @@
 -- The table of machines: each row is that of its number, and the numbers are the known ones.
 use Prim.Native.Nat.{ℕ, _+_, _≤_, _<_}
-use mathlib.Core.Path.{_≡_, refl, sym, ap, ap₂, _∙_, subst}
+use mathlib.Core.Path.{_≡_, refl, sym, ap, _∙_, subst}
 use mathlib.Core.Bool.{Bool, true, false, _||_, or-assoc, or-false}
 use mathlib.Core.List.{List, [], _∷_}
 use native.Mathlib.Omega.{arith}
@@ -108,10 +108,6 @@ module _ (n : ℕ) where
       one false k e = k
 
 -- ---- machines of the table
-
--- a machine of the table is the row of its number
-pub is-machine : {m : Machine} → IsMachine m → m ≡ rowOf (m .number)
-is-machine {m} i = ap₂ (row (m .number)) (i .relocation) (i .wide)
 
 pub arm64-machine : IsMachine (row arm64 IMAGE-REL-ARM64-ADDR32NB true)
 unfolding known relocation wide

@@ -1,7 +1,7 @@
 -- The machines of the table, as the scope paper's definitions have them.
 use Prim.Native.Nat.{ℕ}
 use mathlib.Core.Path.{_≡_}
-use mathlib.Core.Bool.{true, false}
+use mathlib.Core.Bool.{true}
 use Rattle.wire.specs.Bytes.{if_then_else_}
 use Rattle.format.specs.Machines.{known, relocation, wide}
 use Rattle.coff.specs.declared.machines.Machine.{Machine}

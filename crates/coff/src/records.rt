@@ -3,7 +3,6 @@
 ghost use Prim.Native.Nat.{_+_, _≤_};
 ghost use mathlib.Core.Path.{_≡_};
 ghost use lib.ListN.{length};
-ghost use lib.IntN.{ℤ};
 ghost use Rattle.wire.specs.Bytes.{part};
 ghost use Rattle.wire.specs.Writes.{Wrote, Found};
 ghost use Rattle.format.specs.Layouts.{fileHeaderSize, sectionSize, relocationSize, symbolSize, importHeaderSize, importDescriptor, longName, auxiliary, word};

@@ -2,16 +2,14 @@
 use Prim.Native.Nat.{ℕ, _+_, _≤_, _<_}
 use mathlib.Core.Path.{_≡_, refl, sym, ap, _∙_}
 use mathlib.Core.Bool.{Bool, true, false, _&&_}
-use mathlib.Core.List.{[], _∷_, _++_}
+use mathlib.Core.List.{[], _∷_}
 use native.Mathlib.Omega.{arith}
-use lib.ListN.{length, take}
 use lib.Dec.{eqb}
 use borrow.Author.Tests.{lt-ltb, le-ltb, eq-eqb, ne-eqb, ltb-false, eqb-false}
 use Rattle.wire.specs.Bytes.{Bytes, if_then_else_, u16At, u32At, part, holds}
 use Rattle.format.specs.Exports.{namesAt, namesLength, offsetOf, lengthOf, flagsAt, absentAt, bytesAt, dllField, dllName, bothCounts}
 use Rattle.format.specs.Names.{barredDll}
-use Rattle.format.specs.Refusals.{Row, row, earliest, stringRows, maxDll, dllRows, allFlags, rowsFrom, fieldRows, recordRows, headerRows, restRows, listRows, checkList}
-use Rattle.format.specs.declared.Checked.{Checked}
+use Rattle.format.specs.Refusals.{row, earliest, stringRows, maxDll, dllRows, allFlags, rowsFrom, fieldRows, recordRows, headerRows, restRows, listRows, checkList}
 use Rattle.format.specs.declared.Checked.the-variants.{Fine, Refused}
 use Rattle.format.proofs.Rows.{_andThen_, earliest-none, earliest-given, earliest-passed, earliest-append, andThen-stops, andThen-goes-on, fine-row, fine-rest}
 

@@ -1,9 +1,9 @@
 -- What the writer answers and leaves in the output, and the paper's number and values for each case of each answer.
-use Prim.Native.Nat.{ℕ, _+_, _*_}
+use Prim.Native.Nat.{ℕ, _+_}
 use mathlib.Core.Bool.{Bool, true, false}
 use mathlib.Core.List.{List, [], _∷_, _++_}
 use lib.ListN.{length, drop}
-use Rattle.wire.specs.Bytes.{Bytes, if_then_else_}
+use Rattle.wire.specs.Bytes.{Bytes}
 use Rattle.format.specs.Library.{Options, memberSet}
 use Rattle.format.specs.Refusals.{checkAll}
 use Rattle.format.specs.declared.Checked.{Checked}

@@ -2,8 +2,8 @@
 use Prim.Native.Nat.{ℕ, zero, suc, _+_, _*_}
 use Prim.Native.String.{String}
 use mathlib.Core.Path.{_≡_, refl}
-use mathlib.Core.Bool.{Bool, true, false}
-use mathlib.Core.Option.{Option, none, some}
+use mathlib.Core.Bool.{true, false}
+use mathlib.Core.Option.{none, some}
 use mathlib.Core.List.{List, [], _∷_, _++_, map}
 use lib.ListN.{length, drop}
 use Rattle.wire.specs.Bytes as Bytes
@@ -12,7 +12,7 @@ use Rattle.format.specs.Machines as Machines
 use Rattle.format.specs.Machines.{i386, armnt, amd64, arm64, arm64ec, arm64x}
 use Rattle.format.specs.Exports as Exports
 use Rattle.format.specs.Names as Names
-use Rattle.format.specs.Names.{stem, replace, apply, demangle}
+use Rattle.format.specs.Names.{stem, replace, apply}
 use Rattle.format.specs.Plan as Plan
 use Rattle.format.specs.Layouts as Layouts
 use Rattle.format.specs.Layouts.{Member, descriptor, nullDescriptor, nullThunk, short, weak, encode}

@@ -1,8 +1,8 @@
 -- 01, "Name rules": stem, renaming, name types, ARM64EC demangling.
 use Prim.Native.Nat.{ℕ, zero, suc, _+_}
-use mathlib.Core.Bool.{Bool, true, false, _&&_, _||_, not}
+use mathlib.Core.Bool.{Bool, true, _&&_, _||_, not}
 use mathlib.Core.Option.{Option, none, some}
-use mathlib.Core.List.{List, [], _∷_, _++_}
+use mathlib.Core.List.{_++_}
 use lib.ListN.{length, getD, take, drop}
 use lib.Dec.{eqb}
 use Rattle.wire.specs.Bytes.{Bytes, ascii, if_then_else_, same, holds, starts, before, first, last, part, isSome, orElse}

@@ -1,8 +1,8 @@
 -- 01, "Refusal numbers": the rows of the table in the order of the checks, each with its place. The earliest that is given answers.
-use Prim.Native.Nat.{ℕ, zero, suc, _+_, _*_}
-use mathlib.Core.Bool.{Bool, true, false, _&&_, _||_, not}
+use Prim.Native.Nat.{ℕ, zero, suc, _+_}
+use mathlib.Core.Bool.{Bool, true, _&&_, _||_, not}
 use mathlib.Core.List.{List, [], _∷_, _++_}
-use lib.ListN.{length, drop}
+use lib.ListN.{length}
 use lib.Dec.{eqb, ltb}
 use Rattle.wire.specs.Bytes.{Bytes, if_then_else_, u16At, holds}
 use Rattle.format.specs.Machines.{known, firstMachine, nativeMachine}

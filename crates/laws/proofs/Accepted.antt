@@ -1,25 +1,23 @@
--- What acceptance says of a list: its DLL name, its exports' strings and its plans.
-use Prim.Native.Nat.{ℕ, zero, suc, _+_, _*_, _≤_, _<_}
-use mathlib.Core.Path.{_≡_, refl, sym, ap, _∙_}
-use mathlib.Core.Logic.{_⊎_, inl, inr, ⊎-elim}
-use mathlib.Core.Bool.{Bool, true, false, _&&_, _||_, not}
+-- What acceptance says of a list: its machine, its DLL name and its exports' strings.
+use Prim.Native.Nat.{ℕ, zero, suc, _+_, _≤_, _<_}
+use mathlib.Core.Path.{_≡_, refl, sym, _∙_}
+use mathlib.Core.Logic.{_⊎_, ⊎-elim}
+use mathlib.Core.Bool.{Bool, true, false}
 use mathlib.Core.Option.{Option, none, some}
-use mathlib.Core.List.{List, [], _∷_, _++_, List·Memᴰ, List·Memᴰ·cases-cons, List·Memᴰ·not-nil}
+use mathlib.Core.List.{_∷_, _++_, List·Memᴰ, List·Memᴰ·cases-cons, List·Memᴰ·not-nil}
 use native.Mathlib.Omega.{arith}
 use lib.ListN.{length}
-use lib.Dec.{eqb, ltb}
-use borrow.Author.Tests.{ltb-false, eqb-false, eqb-true}
-use Rattle.wire.specs.Bytes.{Bytes, if_then_else_, u16At, u32At, part, holds}
-use Rattle.wire.proofs.Bytes.{not-false, length-part, and-first, and-next}
-use Rattle.format.specs.Machines.{known, firstMachine, nativeMachine}
-use Rattle.format.specs.Exports.{Export, firstCount, nativeCount, bothCounts, namesAt, namesLength, dllField, dllName, recordAt, fieldAt, flagsAt, offsetOf, lengthOf, absentAt, bytesAt, stringAt, isPrivate, exportAt, exportsFrom, firstExports, nativeExports}
+use lib.Dec.{eqb}
+use borrow.Author.Tests.{ltb-false, eqb-false}
+use Rattle.wire.specs.Bytes.{Bytes, if_then_else_, holds}
+use Rattle.wire.proofs.Bytes.{not-false, length-part}
+use Rattle.format.specs.Machines.{known}
+use Rattle.format.specs.Exports.{Export, firstCount, nativeCount, namesAt, namesLength, dllField, dllName, fieldAt, offsetOf, lengthOf, absentAt, bytesAt, stringAt, isPrivate, exportAt, exportsFrom, firstExports, nativeExports}
 use Rattle.format.specs.Names.{barredDll}
-use Rattle.format.specs.Plan.{Plan, plain, deferred, refused, plan}
 use Rattle.format.specs.Library.{Options}
-use Rattle.format.specs.Refusals.{Row, row, earliest, maxCount, maxDll, maxString, machineRows, headerRows, stringRows, dllRows, rowsFrom, fieldRows, recordRows, restRows, listRows, planRows, nameRows, exportRows, acceptRows, checkList, checkExports}
+use Rattle.format.specs.Refusals.{earliest, maxDll, maxString, machineRows, stringRows, rowsFrom, fieldRows, recordRows, listRows, exportRows, acceptRows, checkList, checkExports}
 use Rattle.format.specs.Shaped.{Shaped}
-use Rattle.format.specs.declared.Checked.{Checked}
-use Rattle.format.specs.declared.Checked.the-variants.{Fine, Refused}
+use Rattle.format.specs.declared.Checked.the-variants.{Fine}
 use Rattle.format.proofs.Rows.{fine-row, fine-rest, fine-before, fine-after, fine-at}
 use Rattle.format.proofs.Listed.{Listed, listed}
 
@@ -101,40 +99,20 @@ record-good b shape k e =
     at : (f : ℕ) → earliest (rowsFrom (fieldRows b k) 0 5) ≡ Fine → f < 5 → earliest (fieldRows b k f) ≡ Fine
     at f q h = fine-at (fieldRows b k) 0 5 f q (omega arith) (omega arith)
 
--- ---- the exports of a list: each is good, and its plan is no refusal
+-- ---- the exports of a list
 
-pub record Accepts (machine : ℕ) (mingw : Bool) (e : Export) : Type 0 where
-  pub good : GoodExport e
-  pub planned : (n : ℕ) → plan machine mingw e ≡ refused n → ⊥
-
-name-planned : (machine : ℕ) (mingw : Bool) (b : Bytes) (k : ℕ) → isPrivate (exportAt b k) ≡ false → earliest (nameRows machine mingw b k) ≡ Fine
-    → (n : ℕ) → plan machine mingw (exportAt b k) ≡ refused n → ⊥
-unfolding nameRows planRows earliest
-name-planned machine mingw b k h e n q = let z : Refused n k ≡ Fine = rw (h, q) at e in let y : _≡_ {A = ℕ} 0 1 = cc in omega arith
-
--- the exports from the k-th on, where the rows of all their records pass
-pub exports-accepted : (machine : ℕ) (mingw : Bool) (b : Bytes) → Shaped b → (k n : ℕ)
-    → ((i : ℕ) → k ≤ i → i < k + n → earliest (recordRows b i) ≡ Fine)
-    → ((i : ℕ) → k ≤ i → i < k + n → earliest (nameRows machine mingw b i) ≡ Fine)
-    → (e : Export) → List·Memᴰ e (exportsFrom b k n) → Accepts machine mingw e
+-- from the k-th on, where the rows of all their records pass
+pub exports-good : (b : Bytes) → Shaped b → (k n : ℕ) → ((i : ℕ) → k ≤ i → i < k + n → earliest (recordRows b i) ≡ Fine)
+    → (e : Export) → List·Memᴰ e (exportsFrom b k n) → GoodExport e
 unfolding exportsFrom
-exports-accepted machine mingw b shape k zero rs ns e i = absurd (List·Memᴰ·not-nil i)
-exports-accepted machine mingw b shape k (suc n) rs ns e i =
-    pick (isPrivate (exportAt b k)) refl i
-    (exports-accepted machine mingw b shape (k + 1) n (λ j l h. rs j (omega arith) (omega arith)) (λ j l h. ns j (omega arith) (omega arith)) e)
+exports-good b shape k zero rs e i = absurd (List·Memᴰ·not-nil i)
+exports-good b shape k (suc n) rs e i =
+    pick (isPrivate (exportAt b k)) i (exports-good b shape (k + 1) n (λ j l h. rs j (omega arith) (omega arith)) e)
   where
-    here : isPrivate (exportAt b k) ≡ false → e ≡ exportAt b k → Accepts machine mingw e
-    here h q =
-        rw q
-        (record {
-          good = record-good b shape k (rs k (omega arith) (omega arith));
-          planned = name-planned machine mingw b k h (ns k (omega arith) (omega arith));
-        })
-
-    pick : (t : Bool) → isPrivate (exportAt b k) ≡ t → List·Memᴰ e (if t then exportsFrom b (k + 1) n else exportAt b k ∷ exportsFrom b (k + 1) n)
-        → (List·Memᴰ e (exportsFrom b (k + 1) n) → Accepts machine mingw e) → Accepts machine mingw e
-    pick true h j ih = ih j
-    pick false h j ih = ⊎-elim (λ q. here h q) (λ j. ih j) (List·Memᴰ·cases-cons j)
+    pick : (t : Bool) → List·Memᴰ e (if t then exportsFrom b (k + 1) n else exportAt b k ∷ exportsFrom b (k + 1) n)
+        → (List·Memᴰ e (exportsFrom b (k + 1) n) → GoodExport e) → GoodExport e
+    pick true j ih = ih j
+    pick false j ih = ⊎-elim (λ q. rw q (record-good b shape k (rs k (omega arith) (omega arith)))) (λ j. ih j) (List·Memᴰ·cases-cons j)
 
 pub exports-few : (b : Bytes) (k n : ℕ) → length (exportsFrom b k n) ≤ n
 unfolding exportsFrom
@@ -152,28 +130,23 @@ pub record Accepted (o : Options) (b : Bytes) : Type 0 where
   pub shape : Shaped b
   pub dll : Good maxDll (dllName b)
   pub unbarred : barredDll (dllName b) ≡ false
-  pub firsts : (e : Export) → List·Memᴰ e (firstExports b) → Accepts (firstMachine (o .machine)) (o .mingw) e
-  pub natives : (e : Export) → List·Memᴰ e (nativeExports b) → Accepts (nativeMachine (o .machine)) (o .mingw) e
+  pub firsts : (e : Export) → List·Memᴰ e (firstExports b) → GoodExport e
+  pub natives : (e : Export) → List·Memᴰ e (nativeExports b) → GoodExport e
 
 list-check : (b : Bytes) → earliest (listRows b) ≡ Fine → checkList b ≡ Fine
 unfolding checkList
 list-check b e = e
 
 pub accepted : (o : Options) (b : Bytes) → checkExports o b ≡ Fine → Accepted o b
-unfolding checkExports acceptRows machineRows exportRows firstExports nativeExports
+unfolding checkExports acceptRows machineRows firstExports nativeExports
 accepted o b e =
     let machines : earliest (machineRows (o .machine) ++ listRows b) ≡ Fine = fine-before (machineRows (o .machine) ++ listRows b) (exportRows o b) e in
-    let names : earliest (exportRows o b) ≡ Fine = fine-after (machineRows (o .machine) ++ listRows b) (exportRows o b) e in
     let l : Listed b = listed b (list-check b (fine-after (machineRows (o .machine)) (listRows b) machines)) in
-    let firstRows = rowsFrom (nameRows (firstMachine (o .machine)) (o .mingw) b) 0 (firstCount b) in
-    let nativeRows = rowsFrom (nameRows (nativeMachine (o .machine)) (o .mingw) b) (firstCount b) (nativeCount b) in
     record {
       machine = not-false (known (o .machine)) (fine-row _ _ (fine-before (machineRows (o .machine)) (listRows b) machines));
       shape = l .shape;
       dll = string-good b (l .shape) 0 dllField maxDll true (l .dll) (string-required b (l .shape) 0 dllField maxDll true (l .dll) refl);
       unbarred = l .unbarred;
-      firsts = exports-accepted (firstMachine (o .machine)) (o .mingw) b (l .shape) 0 (firstCount b) (λ i _ h. l .recorded i (omega arith))
-          (λ i l h. fine-at _ 0 (firstCount b) i (fine-before firstRows nativeRows names) l h);
-      natives = exports-accepted (nativeMachine (o .machine)) (o .mingw) b (l .shape) (firstCount b) (nativeCount b) (λ i _ h. l .recorded i (omega arith))
-          (λ i l h. fine-at _ (firstCount b) (nativeCount b) i (fine-after firstRows nativeRows names) l h);
+      firsts = exports-good b (l .shape) 0 (firstCount b) (λ i _ h. l .recorded i (omega arith));
+      natives = exports-good b (l .shape) (firstCount b) (nativeCount b) (λ i _ h. l .recorded i (omega arith));
     }

@@ -1,30 +1,28 @@
 -- Demand 3: where each symbol of an accepted list leads, from the written bytes alone.
-use Prim.Native.Nat.{ℕ, zero, suc, _+_, _≤_}
+use Prim.Native.Nat.{ℕ}
 use mathlib.Core.Path.{_≡_, refl, sym, ap, _∙_, subst}
 use mathlib.Core.Logic.{_⊎_, inl, inr, ⊎-elim}
-use mathlib.Core.Bool.{Bool, true, false, _&&_, _||_, not}
-use mathlib.Core.Option.{Option, none, some, Option·getD, Option·none-ne-some}
-use mathlib.Core.List.{List, [], _∷_, _++_, map, List·Memᴰ, List·Memᴰ·head, List·Memᴰ·tail, List·Memᴰ·not-nil, List·Memᴰ·cases-cons, List·Memᴰ·append-cases, List·Memᴰ·eq-of-singleton, Memᴰ·append-left, Memᴰ·append-right, Memᴰ·map, Memᴰ·of-map}
+use mathlib.Core.Bool.{Bool, true, false}
+use mathlib.Core.Option.{Option, none, some}
+use mathlib.Core.List.{List, [], _∷_, List·Memᴰ, List·Memᴰ·head, List·Memᴰ·tail, List·Memᴰ·not-nil, List·Memᴰ·cases-cons, List·Memᴰ·append-cases, List·Memᴰ·eq-of-singleton, Memᴰ·append-left, Memᴰ·append-right, Memᴰ·map, Memᴰ·of-map}
 use native.Mathlib.Omega.{arith}
-use lib.ListN.{length}
 use lib.Dec.{eqb}
-use borrow.Author.Tests.{eq-eqb, eqb-true}
-use Rattle.wire.specs.Bytes.{Bytes, Octets, if_then_else_, join}
+use Rattle.wire.specs.Bytes.{Bytes, Octets, if_then_else_}
 use Rattle.wire.proofs.Bytes.{join-within, within-join}
 use Rattle.format.specs.Machines.{arm64ec, firstMachine, nativeMachine}
 use Rattle.format.specs.Exports.{Export, dllName, firstExports, nativeExports}
-use Rattle.format.specs.Plan.{Plan, plain, deferred, refused, Choice, typed, later, kind, publicName, ecCode, choose, mangled, free, planChoice, planPublic, plan}
+use Rattle.format.specs.Plan.{Plan, plain, deferred, refused, kind, publicName, choose, planPublic, plan}
 use Rattle.format.specs.Layouts.{Member, descriptor, nullDescriptor, nullThunk, short, weak}
 use Rattle.format.specs.Library.{Options, imp, answersTo, final, lastAnswering, shortMember, aliasMembers, aliasOrShort, deferredMember, shorts, deferreds, membersOf, firstMembers, nativeMembers, memberSet}
 use Rattle.format.specs.Refusals.{checkExports}
-use Rattle.format.specs.Lookup.{shown, symbols, among, listOf, lookupIn, lookupSet, lookup, Placed, readSet}
-use Rattle.format.specs.Demands.{Entry, byName, Where, notFound, nowhere, leads, meaning, asks, Leading, to, shortLeads, aliasLeads, leadings, Asked, Defines, Distinct, Plainly, Kept, Closed, Demand3, Promised}
+use Rattle.format.specs.Lookup.{shown, symbols, listOf, lookupSet, lookup, Placed, readSet}
+use Rattle.format.specs.Demands.{byName, notFound, nowhere, leads, meaning, asks, Leading, to, shortLeads, aliasLeads, leadings, Asked, Defines, Distinct, Plainly, Kept, Closed, Demand3, Promised}
 use Rattle.format.specs.declared.Checked.the-variants.{Fine}
-use Rattle.laws.proofs.Accepted.{Accepts, Accepted, accepted}
-use Rattle.laws.proofs.Plans.{choice-final, PlanBounds, of-plain, of-deferred, of-refused, DeferredBounds, plan-bounds}
-use Rattle.laws.proofs.Members.{Answering, last-answering}
-use Rattle.laws.proofs.Sets.{Stands, Listed, placed, written-read, readBack, first-listed, native-listed}
-use Rattle.laws.proofs.Leads.{entryOf, definerIn, stepsTo, leadsBy, leadsIn, lookupIn-means}
+use Rattle.laws.proofs.Accepted.{GoodExport, accepted}
+use Rattle.laws.proofs.Plans.{choice-final, PlanBounds, of-deferred, plan-bounds}
+use Rattle.laws.proofs.Members.{last-answering}
+use Rattle.laws.proofs.Sets.{Listed, written-read, readBack, first-listed, native-listed}
+use Rattle.laws.proofs.Leads.{entryOf, definerIn, stepsTo, leadsIn, lookupIn-means}
 use Rattle.laws.proofs.Asks.{asks-plain, asks-deferred}
 use Rattle.laws.proofs.Definers.{member-among, among-member, finds, definer-defines, short-leads, weak-leads, undefined}
 
@@ -52,8 +50,8 @@ plain-public machine mingw e f x t m h = pick (publicName e) refl h
     pick (some []) g h = cc
     pick (some (c ∷ cs)) g h = g ∙ ap some (choice-final machine e (c ∷ cs) f x t (choose machine mingw e (c ∷ cs)) m h)
 
-deferred-native : (machine : ℕ) (mingw : Bool) (e : Export) (p w : Bytes) → Accepts machine mingw e → plan machine mingw e ≡ deferred p w → eqb machine arm64ec ≡ false
-deferred-native machine mingw e p w a h = take-native (subst (PlanBounds machine) h (plan-bounds machine mingw e (a .good)))
+deferred-native : (machine : ℕ) (mingw : Bool) (e : Export) (p w : Bytes) → GoodExport e → plan machine mingw e ≡ deferred p w → eqb machine arm64ec ≡ false
+deferred-native machine mingw e p w a h = take-native (subst (PlanBounds machine) h (plan-bounds machine mingw e a))
   where
     take-native : PlanBounds machine (deferred p w) → eqb machine arm64ec ≡ false
     take-native (of-deferred b) = b .native
@@ -161,7 +159,7 @@ module _ (machine : ℕ) (mingw : Bool) (dll : Bytes) (es : List Export) where
       pick true n i = inl (List·Memᴰ·eq-of-singleton i)
       pick false n i = ⊎-elim (λ e. inl e) (λ j. inr (n, List·Memᴰ·eq-of-singleton j)) (List·Memᴰ·cases-cons i)
 
-  module _ (goods : (e : Export) → List·Memᴰ e es → Accepts machine mingw e) (distinct : Distinct ms) (plainly : Plainly es) where
+  module _ (goods : (e : Export) → List·Memᴰ e es → GoodExport e) (distinct : Distinct ms) (plainly : Plainly es) where
     -- ---- an alias of the import a, whose short import has the final name f
 
     module _ (a : Export) (f x : Bytes) (t : ℕ) (m : eqb machine arm64ec ≡ false) (i : List·Memᴰ a es) (r : plan machine mingw a ≡ plain f t x) where
@@ -339,7 +337,7 @@ module _ (set : Bytes) (number machine : ℕ) (mingw : Bool) (dll : Bytes) (es :
   unfolding lookup lookupSet
   means s = rw r (lookupIn-means set (listOf set number ps) (l .stand) s ∙ ap (λ (ms : List Member). leadsIn ms s) (l .members))
 
-  list-kept : ((e : Export) → List·Memᴰ e es → Accepts machine mingw e) → Distinct (membersOf machine mingw dll es) → Plainly es → Kept set number machine mingw es
+  list-kept : ((e : Export) → List·Memᴰ e es → GoodExport e) → Distinct (membersOf machine mingw dll es) → Plainly es → Kept set number machine mingw es
   list-kept goods d p = record { led = λ a i. means (a .symbol) ∙ list-led machine mingw dll es goods d p a i }
 
   list-closed : Closed set number machine mingw es

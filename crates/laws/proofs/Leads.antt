@@ -1,23 +1,20 @@
 -- What the lookup's answer means: where a symbol leads, told from the members alone.
-use Prim.Native.Nat.{ℕ, zero, suc, _+_, _*_, _-_, _≤_, _<_}
-use mathlib.Core.Path.{_≡_, refl, sym, ap, ap₂, _∙_}
-use mathlib.Core.Logic.{_⊎_, inl, inr, ⊎-elim}
-use mathlib.Core.Bool.{Bool, true, false, _&&_, _||_, not}
+use Prim.Native.Nat.{ℕ, suc, _+_, _-_, _≤_}
+use mathlib.Core.Path.{_≡_, refl, sym, ap, _∙_}
+use mathlib.Core.Bool.{Bool, true, false, _||_}
 use mathlib.Core.Option.{Option, none, some, Option·map, Option·none-ne-some}
-use mathlib.Core.List.{List, [], _∷_, _++_, map, List·Memᴰ, List·Memᴰ·head, List·Memᴰ·tail, List·Memᴰ·not-nil, List·Memᴰ·cases-cons}
+use mathlib.Core.List.{List, [], _∷_, _++_, map, List·Memᴰ, List·Memᴰ·head, List·Memᴰ·tail}
 use native.Mathlib.Omega.{arith}
-use lib.ListN.{length, take, drop, length-append, length-drop, length-take}
+use lib.ListN.{length, take, drop, length-drop}
 use lib.Seq.{take-all}
 use lib.Dec.{eqb}
-use borrow.Author.Tests.{eqb-true}
 use Rattle.wire.specs.Bytes.{Bytes, if_then_else_, part, before, starts}
 use Rattle.wire.proofs.Bytes.{part-past, part-part}
 use Rattle.wire.proofs.Parts.{take-before, length-before}
 use Rattle.format.specs.Names.{question, at-sign, underscore, prefixed, noprefix, undecorate, apply, dropped}
 use Rattle.format.specs.Layouts.{Member, descriptor, nullDescriptor, nullThunk, short, weak, importHeaderSize, encode}
 use Rattle.format.specs.Lookup.{Placed, symbols, among, definer, entry, stepped, step, answered, answer, lookupIn}
-use Rattle.format.specs.Demands.{Entry, byOrdinal, byName, Where, notFound, nowhere, leads, noSet, meaning}
-use Rattle.format.specs.declared.Looked.{Looked}
+use Rattle.format.specs.Demands.{Entry, byOrdinal, byName, Where, notFound, nowhere, leads, meaning}
 use Rattle.format.specs.declared.Looked.the-variants as L
 use Rattle.laws.proofs.Lengths.{length-encode-short}
 use Rattle.laws.proofs.Places.{part-encode-short-symbol, part-encode-short-exported}

@@ -1,29 +1,29 @@
 -- Every member of an accepted list is one that the reader admits.
-use Prim.Native.Nat.{ℕ, zero, suc, _+_, _*_, _-_, _≤_, _<_}
-use mathlib.Core.Path.{_≡_, refl, sym, ap, _∙_}
-use mathlib.Core.Logic.{_⊎_, inl, inr, ⊎-elim}
-use mathlib.Core.Bool.{Bool, true, false, _&&_, _||_, not}
+use Prim.Native.Nat.{ℕ, zero, suc, _+_, _-_, _≤_, _<_}
+use mathlib.Core.Path.{_≡_, refl, sym, ap}
+use mathlib.Core.Logic.{_⊎_, ⊎-elim}
+use mathlib.Core.Bool.{Bool, true, false, _||_, not}
 use mathlib.Core.Option.{Option, none, some, Option·none-ne-some}
-use mathlib.Core.List.{List, [], _∷_, _++_, map, List·Memᴰ, List·Memᴰ·head, List·Memᴰ·tail, List·Memᴰ·not-nil, List·Memᴰ·cases-cons, List·Memᴰ·append-cases, List·Memᴰ·eq-of-singleton}
+use mathlib.Core.List.{List, [], _∷_, _++_, List·Memᴰ, List·Memᴰ·head, List·Memᴰ·tail, List·Memᴰ·not-nil, List·Memᴰ·cases-cons, List·Memᴰ·append-cases, List·Memᴰ·eq-of-singleton}
 use native.Mathlib.Omega.{arith}
-use lib.ListN.{length, getD, take, drop, length-append, length-take}
-use lib.Dec.{eqb, leb, ltb}
-use borrow.Author.Tests.{eqb-true, le-leb, lt-ltb}
-use Rattle.wire.specs.Bytes.{Bytes, Octets, ascii, if_then_else_, holds, last, join, orElse, same}
-use Rattle.wire.proofs.Bytes.{and-first, and-next, both-true, or-first, or-next, holds-take, u16At-small, join-within}
+use lib.ListN.{length, getD, length-append, length-take}
+use lib.Dec.{eqb}
+use borrow.Author.Tests.{le-leb, lt-ltb}
+use Rattle.wire.specs.Bytes.{Bytes, Octets, ascii, if_then_else_, holds, last, orElse}
+use Rattle.wire.proofs.Bytes.{and-first, and-next, both-true, or-next, holds-take, u16At-small, join-within}
 use Rattle.format.specs.Machines.{i386, armnt, amd64, arm64, arm64ec, arm64x, known, hybrid, firstMachine, nativeMachine}
 use Rattle.format.specs.Exports.{Export, dllName, ordinalAt, exportAt, exportsFrom, firstExports, nativeExports, firstCount, nativeCount, isPrivate}
-use Rattle.format.specs.Names.{dot, upToDot, stem, barredDll, apply}
+use Rattle.format.specs.Names.{dot, upToDot, stem, barredDll}
 use Rattle.format.specs.Plan.{Plan, plain, deferred, refused, kind, plan}
-use Rattle.format.specs.Layouts.{Member, descriptor, nullDescriptor, nullThunk, short, weak, compatStem, encode}
+use Rattle.format.specs.Layouts.{Member, descriptor, nullDescriptor, nullThunk, short, weak, compatStem}
 use Rattle.format.specs.Library.{Options, imp, answersTo, final, lastAnswering, shortMember, aliasMembers, aliasOrShort, deferredMember, shorts, deferreds, membersOf, fixedMembers, firstMembers, nativeMembers, allMembers}
-use Rattle.format.specs.Refusals.{maxDll, maxString, checkExports}
+use Rattle.format.specs.Refusals.{maxDll, checkExports}
 use Rattle.format.specs.Reader.{between, admitsDll, admitsStem, ordinary, admits}
 use Rattle.format.specs.declared.Checked.the-variants.{Fine}
-use Rattle.laws.proofs.Accepted.{Good, GoodExport, Accepts, Accepted, accepted}
+use Rattle.laws.proofs.Accepted.{Good, GoodExport, Accepted, accepted}
 use Rattle.laws.proofs.Names.{last-at}
 use Rattle.laws.proofs.ReadBack.{known-each}
-use Rattle.laws.proofs.Plans.{Clear, maxPublic, maxFinal, kind-small, PlainBounds, DeferredBounds, PlanBounds, of-plain, of-deferred, of-refused, plan-bounds}
+use Rattle.laws.proofs.Plans.{Clear, maxPublic, maxFinal, kind-small, PlainBounds, DeferredBounds, PlanBounds, of-plain, of-deferred, plan-bounds}
 
 -- ---- names between limits
 
@@ -212,7 +212,7 @@ unfolding final
 final-clear machine (plain f t x) m (is-plain b) = record { few = b .unmangled m; clear = b .named .clear }
 
 module _ (machine : ℕ) (mingw : Bool) (dll : Bytes) (listed : ListMachine machine) (admitted : admitsDll dll ≡ true)
-    (es : List Export) (goods : (e : Export) → List·Memᴰ e es → Accepts machine mingw e) (numbers : (e : Export) → List·Memᴰ e es → Numbered e) where
+    (es : List Export) (goods : (e : Export) → List·Memᴰ e es → GoodExport e) (numbers : (e : Export) → List·Memᴰ e es → Numbered e) where
   shorts-admitted : (m : Member) (e : Export) (p : Plan) → e .ordinal < 65536 → PlanBounds machine p → List·Memᴰ m (shortMember machine dll e p) → admits m ≡ true
   unfolding shortMember
   shorts-admitted m e (plain f t x) o (of-plain b) i =
@@ -232,7 +232,7 @@ module _ (machine : ℕ) (mingw : Bool) (dll : Bytes) (listed : ListMachine mach
       (λ h. let z : _≡_ {A = ℕ} 0 1 = cc in absurd (omega arith)))
   or-short-admitted m e p w (some a) q o b i =
       let r = last-answering machine mingw w es a q in
-      let s = answers-plain machine w (plan machine mingw a) (plan-bounds machine mingw a (goods a (r .listed) .good)) (r .answers) in
+      let s = answers-plain machine w (plan machine mingw a) (plan-bounds machine mingw a (goods a (r .listed))) (r .answers) in
       alias-admitted machine mingw dll listed admitted (kind e) (final (plan machine mingw a)) p m (b .native)
       (final-some machine (plan machine mingw a) s) (final-clear machine (plan machine mingw a) (b .native) s) (b .some-bytes) (b .named) i
 
@@ -250,11 +250,11 @@ module _ (machine : ℕ) (mingw : Bool) (dll : Bytes) (listed : ListMachine mach
       (λ j.
       let w = join-within (λ (e : Export). shortMember machine dll e (plan machine mingw e)) es m j in
       shorts-admitted m (w .of) (plan machine mingw (w .of)) (numbers (w .of) (w .listed) .small)
-      (plan-bounds machine mingw (w .of) (goods (w .of) (w .listed) .good)) (w .there))
+      (plan-bounds machine mingw (w .of) (goods (w .of) (w .listed))) (w .there))
       (λ j.
       let w = join-within (λ (e : Export). deferredMember machine mingw dll es e (plan machine mingw e)) es m j in
       deferreds-admitted m (w .of) (plan machine mingw (w .of)) (numbers (w .of) (w .listed) .small)
-      (plan-bounds machine mingw (w .of) (goods (w .of) (w .listed) .good)) (w .there))
+      (plan-bounds machine mingw (w .of) (goods (w .of) (w .listed))) (w .there))
       (List·Memᴰ·append-cases (shorts machine mingw dll es) i)
 
 -- ---- all members of an accepted list

@@ -1,17 +1,16 @@
 -- Laws of the name rules: how long names get, and that they hold no NUL where what they are made of holds none.
-use Prim.Native.Nat.{ℕ, zero, suc, _+_, _*_, _-_, _≤_, _<_}
-use mathlib.Core.Path.{_≡_, refl, sym, ap, _∙_}
+use Prim.Native.Nat.{ℕ, zero, suc, _+_, _-_, _≤_, _<_}
+use mathlib.Core.Path.{_≡_, refl, ap, _∙_}
 use mathlib.Core.Logic.{_⊎_, inl, inr, ⊎-elim}
-use mathlib.Core.Bool.{Bool, true, false, _&&_, _||_, not}
+use mathlib.Core.Bool.{Bool, true, false, _&&_}
 use mathlib.Core.Option.{Option, none, some, Option·none-ne-some}
-use mathlib.Core.List.{List, [], _∷_, _++_}
+use mathlib.Core.List.{[], _∷_, _++_}
 use native.Mathlib.Omega.{arith}
-use lib.ListN.{length, getD, take, drop, length-append, length-take, length-drop}
+use lib.ListN.{length, take, drop, length-append, length-take, length-drop}
 use lib.Dec.{eqb}
-use borrow.Author.Tests.{eqb-true, eqb-false}
-use Rattle.wire.specs.Bytes.{Bytes, if_then_else_, starts, holds, first, last, part, same, orElse, before}
-use Rattle.wire.proofs.Bytes.{same-eq, holds-take, holds-drop, holds-neither, and-first, and-next}
-use Rattle.format.specs.Names.{underscore, dot, upToDot, stem, occursAt, find, splice, replaceOnce, replace, tag, cut, demangle, question, hash}
+use Rattle.wire.specs.Bytes.{Bytes, if_then_else_, starts, holds, first, last, part, orElse}
+use Rattle.wire.proofs.Bytes.{same-eq, holds-take, holds-drop, holds-neither}
+use Rattle.format.specs.Names.{underscore, occursAt, find, splice, replaceOnce, replace, tag, cut, demangle, question, hash}
 
 -- ---- first and last
 

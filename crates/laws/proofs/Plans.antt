@@ -1,22 +1,19 @@
 -- Laws of plans: the names and types of an accepted export's import, and its bounds.
-use Prim.Native.Nat.{ℕ, zero, suc, _+_, _*_, _-_, _≤_, _<_}
-use mathlib.Core.Path.{_≡_, refl, sym, ap, _∙_}
-use mathlib.Core.Logic.{_⊎_, inl, inr, ⊎-elim}
+use Prim.Native.Nat.{ℕ, _-_, _≤_}
+use mathlib.Core.Path.{_≡_, refl}
 use mathlib.Core.Bool.{Bool, true, false, _&&_, _||_, not}
-use mathlib.Core.Option.{Option, none, some, Option·getD, Option·none-ne-some}
-use mathlib.Core.List.{List, [], _∷_, _++_}
+use mathlib.Core.Option.{Option, none, some, Option·getD}
+use mathlib.Core.List.{[], _∷_}
 use native.Mathlib.Omega.{arith}
-use lib.ListN.{length, drop}
+use lib.ListN.{length}
 use lib.Dec.{eqb}
-use borrow.Author.Tests.{eqb-true}
 use Rattle.wire.specs.Bytes.{Bytes, if_then_else_, starts, holds, same}
-use Rattle.wire.proofs.Bytes.{and-first}
 use Rattle.format.specs.Machines.{i386, arm64ec}
 use Rattle.format.specs.Exports.{Export, noname, isData, isConstant}
-use Rattle.format.specs.Names.{hash, question, underscore, at-sign, apply, plainType, tagged, demangle, replace}
-use Rattle.format.specs.Plan.{Plan, plain, deferred, refused, Choice, typed, later, base, kind, renamed, publicName, ecCode, free, choose, chooseNamed, chooseImport, exporting, mangled, planChoice, planPublic, plan}
+use Rattle.format.specs.Names.{hash, question, underscore, at-sign, apply, plainType, tagged, demangle}
+use Rattle.format.specs.Plan.{Plan, plain, deferred, refused, Choice, typed, later, base, kind, renamed, publicName, free, choose, chooseNamed, chooseImport, exporting, mangled, planChoice, planPublic, plan}
 use Rattle.format.specs.Refusals.{maxString}
-use Rattle.laws.proofs.Accepted.{Good, Fit, fit-none, fit-some, GoodExport, Accepts}
+use Rattle.laws.proofs.Accepted.{Good, Fit, fit-some, GoodExport}
 use Rattle.laws.proofs.Names.{replace-length, replace-clear, demangle-length, demangle-clear}
 
 -- ---- kinds

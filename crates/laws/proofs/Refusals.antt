@@ -4,19 +4,19 @@ use mathlib.Core.Path.{_≡_, refl, sym, ap, ap₂, _∙_}
 use mathlib.Core.Logic.{_⊎_, inl, inr, ⊎-elim}
 use mathlib.Core.Bool.{Bool, true, false, _&&_, _||_, not}
 use mathlib.Core.Option.{Option, none, some}
-use mathlib.Core.List.{List, [], _∷_, _++_}
+use mathlib.Core.List.{List, [], _∷_}
 use native.Mathlib.Omega.{arith}
-use lib.ListN.{length, drop}
+use lib.ListN.{length}
 use lib.Dec.{eqb}
 use borrow.Author.Tests.{eqb-true}
 use Rattle.wire.specs.Bytes.{Bytes, if_then_else_, same, holds, starts, isSome}
 use Rattle.wire.proofs.Bytes.{and-first}
 use Rattle.format.specs.Machines.{i386, arm64ec}
 use Rattle.format.specs.Exports.{Export, noname}
-use Rattle.format.specs.Names.{hash, question, underscore, at-sign, apply, plainType, tagged, demangle}
+use Rattle.format.specs.Names.{hash, question, underscore, at-sign, plainType, tagged, demangle}
 use Rattle.format.specs.Plan.{Plan, plain, deferred, refused, Choice, typed, later, base, kind, publicName, ecCode, free, choose, chooseNamed, chooseImport, exporting, mangled, planChoice, planPublic, plan}
-use Rattle.format.specs.Library.{Options, memberSet}
-use Rattle.format.specs.Refusals.{Row, row, earliest, allRows, checkAll}
+use Rattle.format.specs.Library.{Options}
+use Rattle.format.specs.Refusals.{Row, earliest, allRows, checkAll}
 use Rattle.format.specs.Answers.{total, written, leaves, outputAfter}
 use Rattle.format.specs.Demands.{Earliest, given-here, given-later, NoneGiven, no-row, not-this, Demand1}
 use Rattle.format.specs.declared.Checked.{Checked}

@@ -1,21 +1,21 @@
 -- A written set is valid, and its two lists are the two lists written.
-use Prim.Native.Nat.{ℕ, zero, suc, _+_, _*_, _-_, _≤_, _<_}
-use mathlib.Core.Path.{_≡_, refl, sym, ap, ap₂, _∙_}
-use mathlib.Core.Logic.{_⊎_, inl, inr, ⊎-elim}
-use mathlib.Core.Bool.{Bool, true, false, _&&_, not}
-use mathlib.Core.Option.{Option, none, some, Option·map}
+use Prim.Native.Nat.{ℕ, suc, _+_, _*_, _-_, _<_}
+use mathlib.Core.Path.{_≡_, refl, sym, ap, _∙_}
+use mathlib.Core.Logic.{_⊎_, ⊎-elim}
+use mathlib.Core.Bool.{Bool, true, false}
+use mathlib.Core.Option.{Option, none, some}
 use mathlib.Core.List.{List, [], _∷_, _++_, map, append-nil, append-assoc, List·Memᴰ, List·Memᴰ·head, List·Memᴰ·tail, List·Memᴰ·not-nil, List·Memᴰ·cases-cons, List·Memᴰ·append-cases, List·Memᴰ·eq-of-singleton, Memᴰ·append-left, Memᴰ·append-right}
 use native.Mathlib.Nat.{add-zero}
 use native.Mathlib.Omega.{arith}
-use lib.ListN.{length, take, drop, length-append, length-drop, length-map, drop-of-length-le}
-use lib.Seq.{drop-drop, drop-append-add, drop-at, take-at}
-use lib.Dec.{eqb, leb}
+use lib.ListN.{length, take, drop, length-append, length-map}
+use lib.Seq.{drop-drop, drop-at, take-at}
+use lib.Dec.{eqb}
 use borrow.Author.Tests.{eq-eqb, le-leb}
-use Rattle.wire.specs.Bytes.{Bytes, Octets, if_then_else_, le32, u32At, part, join}
+use Rattle.wire.specs.Bytes.{Bytes, Octets, if_then_else_, u32At, part, join}
 use Rattle.wire.proofs.Bytes.{drop-past, part-seam, u32At-here, join-within}
 use Rattle.format.specs.Exports.{Export, dllName}
 use Rattle.format.specs.Plan.{Plan, plain, deferred, refused, kind, plan}
-use Rattle.format.specs.Layouts.{Member, descriptor, nullDescriptor, nullThunk, short, weak, encode}
+use Rattle.format.specs.Layouts.{Member, weak, encode}
 use Rattle.format.specs.Library.{Options, imp, final, lastAnswering, shortMember, aliasMembers, aliasOrShort, deferredMember, shorts, deferreds, membersOf, fixedMembers, firstMembers, nativeMembers, allMembers, setHeaderSize, entrySize, firstMemberAt, directory, setBytes, memberSet}
 use Rattle.format.specs.Reader.{admits, read}
 use Rattle.format.specs.Refusals.{checkExports}

@@ -1,15 +1,15 @@
 -- An accepted list's total is below 2^32, and so is every size and offset in it.
 use Prim.Native.Nat.{ℕ, zero, suc, _+_, _*_, _-_, _≤_, _<_}
-use mathlib.Core.Path.{_≡_, refl, sym, ap, _∙_}
-use mathlib.Core.Logic.{_⊎_, inl, inr, ⊎-elim}
-use mathlib.Core.Bool.{Bool, true, false, _&&_, not}
+use mathlib.Core.Path.{_≡_, refl}
+use mathlib.Core.Logic.{_⊎_, ⊎-elim}
+use mathlib.Core.Bool.{Bool, true, false, not}
 use mathlib.Core.Option.{Option, none, some}
 use mathlib.Core.List.{List, [], _∷_, _++_, map, List·Memᴰ, List·Memᴰ·head, List·Memᴰ·tail, List·Memᴰ·not-nil, List·Memᴰ·cases-cons}
 use native.Mathlib.Nat.{mul-suc}
 use native.Mathlib.Omega.{arith}
 use lib.ListN.{length, getD, length-append, length-map, length-take}
 use lib.Dec.{eqb, ltb, leb}
-use Rattle.wire.specs.Bytes.{Bytes, Octets, if_then_else_, le32, join, last}
+use Rattle.wire.specs.Bytes.{Bytes, Octets, if_then_else_, join, last}
 use Rattle.wire.proofs.Bytes.{and-first, and-next, and-each}
 use Rattle.format.specs.Machines.{arm64x, known, wide, firstMachine, nativeMachine}
 use Rattle.format.specs.Names.{dot, upToDot, stem, barredDll}

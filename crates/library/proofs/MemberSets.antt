@@ -1,31 +1,29 @@
 -- The member set: all members drawn, the header before them, and the writer's answer.
-use Prim.Native.Nat.{ℕ, _+_, _*_, _-_, _/_, _≤_, _<_}
+use Prim.Native.Nat.{ℕ, _+_, _-_, _/_, _≤_, _<_}
 use mathlib.Core.Path.{_≡_, refl, sym, ap, ap₂, _∙_}
-use mathlib.Core.Bool.{Bool, true, false}
-use mathlib.Core.List.{List, [], _∷_, _++_, map, append-nil, append-assoc}
+use mathlib.Core.Bool.{Bool}
+use mathlib.Core.List.{List, [], _∷_, _++_, map, append-nil}
 use native.Mathlib.Nat.{sub-zero}
 use native.Mathlib.Omega.{arith}
 use lib.Dec.{ltb}
-use lib.ListN.{length, take, drop, length-append, length-map}
+use lib.ListN.{length, drop, length-append, length-map}
 use borrow.Author.Tests.{lt-ltb, le-ltb}
-use Rattle.wire.specs.Bytes.{Bytes, Octets, le32, join}
+use Rattle.wire.specs.Bytes.{Bytes, Octets, join}
 use Rattle.wire.specs.Writes.{over, Wrote}
 use Rattle.wire.proofs.Bytes.{length-part}
 use Rattle.wire.proofs.Writes.{over-over, over-comm, over-exact}
 use Rattle.format.specs.Machines.{firstMachine, nativeMachine}
-use Rattle.format.specs.Exports.{Export, firstCount, nativeCount, bothCounts, namesAt, dllField, offsetOf, lengthOf, bytesAt, dllName, exportsFrom, firstExports, nativeExports}
+use Rattle.format.specs.Exports.{firstCount, nativeCount, bothCounts, namesAt, dllField, offsetOf, lengthOf, bytesAt, dllName, exportsFrom, firstExports, nativeExports}
 use Rattle.format.specs.Layouts.{Member, encode}
-use Rattle.format.specs.Library.{Options, setHeaderSize, entrySize, firstMemberAt, directory, membersOf, fixedMembers, firstMembers, nativeMembers, allMembers, setBytes, memberSet}
+use Rattle.format.specs.Library.{Options, setHeaderSize, firstMemberAt, directory, membersOf, fixedMembers, firstMembers, nativeMembers, allMembers, setBytes, memberSet}
 use Rattle.format.specs.Refusals.{Row, row, earliest, machineRows, listRows, exportRows, acceptRows, roomRows, allRows, checkList, checkExports, checkAll}
 use Rattle.format.specs.Answers.{total, written, leaves, outputAfter}
-use Rattle.format.specs.declared.Checked.{Checked}
 use Rattle.format.specs.declared.Checked.the-variants.{Fine, Refused}
-use Rattle.format.specs.declared.Written.{Written}
 use Rattle.format.specs.declared.Written.the-variants as W
 use Rattle.format.proofs.Rows.{fine-before, fine-after, earliest-given, earliest-passed, earliest-none, earliest-append, andThen-stops, andThen-goes-on}
-use Rattle.format.proofs.Listed.{Listed, listed, dll-few, dll-inside}
+use Rattle.format.proofs.Listed.{listed, dll-few, dll-inside}
 use Rattle.laws.proofs.Accepted.{accepted}
-use Rattle.laws.proofs.Totals.{maxMember, first-few, native-few, members-small, length-directory, length-setBytes}
+use Rattle.laws.proofs.Totals.{first-few, native-few, members-small, length-directory, length-setBytes}
 use Rattle.walks.specs.Pen.{Room, Drew, fixedOf}
 use Rattle.library.specs.Sets.{membersBy, DrewBy, DrewAll, farthest, Measured, headerBytes}
 use Rattle.walks.proofs.Pens.{room-as, room-first, room-next, drew-as, drew-more, drew-length}

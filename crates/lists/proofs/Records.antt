@@ -1,21 +1,20 @@
 -- Laws of a record's fields, by the places that code computes; and that a checked list holds its records.
-use Prim.Native.Nat.{ℕ, _+_, _*_, _/_, _%_, _≤_, _<_}
-use mathlib.Core.Path.{_≡_, refl, sym, ap, _∙_}
+use Prim.Native.Nat.{ℕ, _+_, _≤_, _<_}
+use mathlib.Core.Path.{_≡_, sym, ap, _∙_}
 use mathlib.Core.Bool.{Bool, true, false, not}
-use mathlib.Core.Option.{Option, none, some, Option·getD}
 use native.Mathlib.Omega.{arith}
 use lib.ListN.{length, take, drop, length-drop}
 use lib.Seq.{drop-drop, take-all}
 use lib.Dec.{eqb}
 use borrow.Author.Tests.{eq-eqb, ne-eqb}
-use Rattle.wire.specs.Bytes.{Bytes, if_then_else_, u16At, u32At, part, holds}
+use Rattle.wire.specs.Bytes.{Bytes, part, holds}
 use Rattle.wire.proofs.Bytes.{not-true, holds-take, holds-drop}
-use Rattle.format.specs.Exports.{namesAt, namesLength, bothCounts, dllField, offsetOf, lengthOf, recordAt, fieldAt, absentAt, bytesAt, stringAt, exportAt}
+use Rattle.format.specs.Exports.{namesAt, namesLength, bothCounts, offsetOf, lengthOf, fieldAt, absentAt, bytesAt, stringAt, exportAt}
 use Rattle.format.specs.Plan.{base}
 use Rattle.format.specs.Refusals.{checkList}
 use Rattle.format.specs.Shaped.{Shaped}
 use Rattle.format.specs.declared.Checked.the-variants.{Fine}
-use Rattle.format.proofs.Listed.{Listed, listed, record-inside, names-inside, field-few, field-named, field-inside}
+use Rattle.format.proofs.Listed.{listed, record-inside, names-inside, field-few, field-named, field-inside}
 use Rattle.lists.specs.Held.{Held, isClean}
 
 -- ---- absent strings

@@ -3,11 +3,10 @@ pub mod record; // record.rt: the exports of a checked list
 
 use format::Checked;
 ghost use mathlib.Core.Path.{_≡_};
-ghost use mathlib.Core.Bool.{Bool};
 ghost use Prim.Native.Nat.{_+_, _*_, _≤_, _<_};
 ghost use lib.ListN.{length};
-ghost use Rattle.wire.specs.Bytes.{u32At, u16At, part, holds, same};
-ghost use Rattle.format.specs.Exports.{bothCounts, recordAt};
+ghost use Rattle.wire.specs.Bytes.{part, holds};
+ghost use Rattle.format.specs.Exports.{bothCounts};
 ghost use Rattle.format.specs.Refusals.{earliest, headerRows, stringRows, dllRows, fieldRows, recordRows, rowsFrom, restRows, checkList};
 ghost use Rattle.format.specs.Shaped.{Shaped};
 ghost use Rattle.lists.specs.Held.{isClean};

@@ -16,7 +16,6 @@ use Rattle.wire.proofs.Writes.{_⨟_, found-whole, whole-found}
 use Rattle.wire.proofs.Parts.{part-last}
 use Rattle.format.specs.Machines.{arm64ec}
 use Rattle.format.specs.Names.{demangle}
-use Rattle.format.specs.Layouts.{short}
 use Rattle.format.specs.Library.{imp}
 use Rattle.format.specs.Reader.{read}
 use Rattle.format.specs.Lookup.{shown, symbols, among}

@@ -7,7 +7,7 @@ use native.Mathlib.Omega.{arith}
 use lib.Dec.{eqb}
 use lib.ListN.{length, length-append}
 use borrow.Author.Tests.{eq-eqb, ne-eqb}
-use Rattle.wire.specs.Bytes.{Bytes, if_then_else_}
+use Rattle.wire.specs.Bytes.{Bytes}
 use Rattle.format.specs.Names.{stem}
 use Rattle.format.specs.Layouts.{descriptor, nullDescriptor, short, nullName, compatStem, encode}
 use Rattle.format.specs.Library.{imp}

@@ -1,21 +1,18 @@
 -- Laws of ARM64EC names: the ways through mangling and demangling.
-use Prim.Native.Nat.{ℕ, _+_, _≤_}
+use Prim.Native.Nat.{ℕ, _+_}
 use mathlib.Core.Path.{_≡_, refl, sym, ap, _∙_}
 use mathlib.Core.Bool.{Bool, true, false, _||_, not}
-use mathlib.Core.Option.{none, some, Option·none-ne-some}
-use mathlib.Core.List.{[], _∷_, _++_}
+use mathlib.Core.Option.{none, some}
+use mathlib.Core.List.{[], _∷_}
 use native.Mathlib.Omega.{arith}
-use lib.ListN.{length, take, drop, length-append, length-take, length-drop}
+use lib.ListN.{length}
 use borrow.Author.Tests.{eq-eqb, ne-eqb, eqb-true}
 use Rattle.wire.specs.Bytes.{Bytes, if_then_else_, starts, isSome}
 use Rattle.format.specs.Names.{hash, question, tag, find, tagged, cut, demangle}
-use Rattle.format.specs.Plan.{Plan, plain, refused, exporting, mangled}
 use Rattle.laws.proofs.Names.{starts-some, find-within}
-use Rattle.names.specs.Mangler.{manglingOf, demangledOf, goneOf, leastOf, Demangles}
-use Rattle.names.specs.declared.mangler.Mangling.{Mangling}
+use Rattle.names.specs.Mangler.{manglingOf, demangledOf, Demangles}
 use Rattle.names.specs.declared.mangler.Mangling.the-variants.{Prefix, Mangled}
 use Rattle.names.specs.declared.mangler.Mangling.the-variants as mangling
-use Rattle.names.specs.declared.mangler.Demangled.{Demangled}
 use Rattle.names.specs.declared.mangler.Demangled.the-variants.{Dropped, Cut, Fails}
 
 -- ---- starts
@@ -43,28 +40,6 @@ module _ (s : Bytes) (e : starts question s ≡ true) where
   pub mangling-untagged : find tag s ≡ none → manglingOf s ≡ mangling.Fails
   unfolding tagged isSome
   mangling-untagged f = mangling-by s e (starts-other question hash s (λ q. absurd (omega arith)) e) (ap isSome f)
-
--- the empty name, at which the Rust panics
-pub mangling-empty : manglingOf [] ≡ Prefix
-unfolding manglingOf starts
-mangling-empty = refl
-
--- the plan that each case gives
-abbrev pub planOf : Bool → Bytes → ℕ → Bytes → Mangling → Plan
-planOf isFree s t x Prefix = if isFree then plain (hash ∷ s) 4 s else plain (hash ∷ s) t x
-planOf isFree s t x Mangled = if isFree then exporting s (demangle s) else plain s t x
-planOf isFree s t x mangling.Fails = if isFree then refused 13 else plain s t x
-
-pub mangled-plan : (isFree : Bool) (s : Bytes) (t : ℕ) (x : Bytes) → mangled isFree s t x ≡ planOf isFree s t x (manglingOf s)
-unfolding mangled manglingOf
-mangled-plan isFree s t x = side (not (starts question s || starts hash s)) (starts hash s || tagged s)
-  where
-    side : (a b : Bool)
-        → (if a then planOf isFree s t x Prefix else if b then planOf isFree s t x Mangled else planOf isFree s t x mangling.Fails)
-        ≡ planOf isFree s t x (if a then Prefix else if b then Mangled else mangling.Fails)
-    side true b = refl
-    side false true = refl
-    side false false = refl
 
 -- ---- Demangles
 
@@ -95,22 +70,3 @@ module _ (s : Bytes) where
               name = rw (h, q, e, ne-eqb (length s) (at + 3) (λ k. l (sym k)));
               within = omega (arith, find-within tag s at e, l);
             }
-
--- the empty name, at which the Rust panics
-pub demangle-empty : demangle [] ≡ none
-unfolding demangle starts
-demangle-empty = refl
-
--- how long the demangled name is
-pub demangles-length : {s : Bytes} {r : Demangled} (x : Bytes) → Demangles s r → demangle s ≡ some x → length x + goneOf r ≡ length s
-unfolding demangledOf
-demangles-length {s} {r} x d e = side r (d .name ∙ e) (d .within)
-  where
-    side : (r : Demangled) → demangledOf s r ≡ some x → leastOf r ≤ length s → length x + goneOf r ≡ length s
-    side Dropped q h =
-        let f : drop 1 s ≡ x = cc in
-        omega (arith, ap length f, length-drop 1 s)
-    side (Cut at) q h =
-        let f : take at s ++ drop (at + 3) s ≡ x = cc in
-        omega (arith, ap length f, length-append (take at s) (drop (at + 3) s), length-take at s, length-drop (at + 3) s)
-    side Fails q h = absurd (Option·none-ne-some x q)

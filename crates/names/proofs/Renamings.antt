@@ -2,21 +2,20 @@
 use Prim.Native.Nat.{ℕ, _+_, _-_, _≤_}
 use mathlib.Core.Path.{_≡_, refl, sym, ap, _∙_}
 use mathlib.Core.Bool.{Bool, true, false, _&&_, true≢false}
-use mathlib.Core.Option.{Option, none, some, Option·none-ne-some}
+use mathlib.Core.Option.{Option, none, some}
 use mathlib.Core.List.{_++_}
 use native.Mathlib.Omega.{arith}
 use lib.ListN.{length, take, drop, length-append, length-take, length-drop}
-use Rattle.wire.specs.Bytes.{Bytes, if_then_else_, starts, isSome, orElse}
+use Rattle.wire.specs.Bytes.{Bytes, if_then_else_, starts, orElse}
 use Rattle.wire.specs.Writes.{Wrote}
 use Rattle.wire.proofs.Writes.{_⨾_, wrote-as}
 use Rattle.format.specs.Names.{underscore, find, splice, replaceOnce, replace}
 use Rattle.laws.proofs.Names.{find-within, replace-length}
 use Rattle.names.proofs.Searches.{take-rest}
 use Rattle.names.proofs.BuiltNames.{built-wrote}
-use Rattle.names.specs.Rename.{renamedOf, lengthOf, atOf, endOf, skipOf, Located, Room, Renamed}
-use Rattle.names.specs.Built.{nameOf, Built}
+use Rattle.names.specs.Rename.{renamedOf, atOf, endOf, skipOf, Located, Room, Renamed}
+use Rattle.names.specs.Built.{Built}
 use Rattle.names.specs.declared.built.BuiltName.{BuiltName}
-use Rattle.names.specs.declared.rename.Replaced.{Replaced}
 use Rattle.names.specs.declared.rename.Renaming.{Renaming}
 use Rattle.names.specs.declared.rename.Renaming.the-variants.{Of, Fails}
 
@@ -119,17 +118,6 @@ module _ (s from to : Bytes) {r : Renaming} (l : Located s to (replaceOnce s fro
         → Located s to (replaceOnce s (drop 1 from) (drop 1 to)) q → Located s to (replace s from to) q
     locate-again f g m = located-as (sym (replace-again s from to (located-fails l e) f g)) m
 
--- how long the name is
-pub located-length : {s to : Bytes} {w : Option Bytes} {r : Renaming} (x : Bytes) → Located s to w r → w ≡ some x → length x ≡ lengthOf s to r
-unfolding renamedOf
-located-length {s} {to} {r = r} x l e = side r (l .name ∙ e) (l .ordered) (l .inside)
-  where
-    side : (r : Renaming) → renamedOf s to r ≡ some x → atOf r ≤ endOf r → endOf r ≤ length s → length x ≡ lengthOf s to r
-    side (Of at end skip) q o i =
-        let f : take at s ++ drop skip to ++ drop end s ≡ x = cc in
-        sym (ap length f) ∙ length-splice s to at end skip (omega arith)
-    side Fails q o i = absurd (Option·none-ne-some x q)
-
 -- ---- Renamed
 
 -- what was located fits
@@ -170,22 +158,3 @@ renamed-none {n = n} e h =
       within = omega arith;
       used = ap (λ (k : ℕ). length (take k (n .bytes))) h ∙ sym h;
     }
-
--- the mark, and the name that is wanted
-module _ {w : Option Bytes} {r : Replaced} (q : Renamed w r) where
-  pub renamed-found : r .found ≡ isSome w
-  unfolding isSome
-  renamed-found = side (r .found) refl
-    where
-      side : (b : Bool) → r .found ≡ b → b ≡ isSome w
-      side true e = sym (ap isSome (q .given e))
-      side false e = sym (ap isSome (q .fails e))
-
-  pub renamed-name : (b : Bytes) → w ≡ some b → nameOf (r .name) ≡ b
-  renamed-name b e = side (r .found) refl
-    where
-      side : (t : Bool) → r .found ≡ t → nameOf (r .name) ≡ b
-      side true f =
-          let g : some (nameOf (r .name)) ≡ some b = sym (q .given f) ∙ e in
-          cc
-      side false f = absurd (Option·none-ne-some b (sym (q .fails f) ∙ e))

@@ -26,12 +26,6 @@ demangledOf s Dropped = some (drop 1 s)
 demangledOf s (Cut at) = some (take at s ++ drop (at + length tag) s)
 demangledOf s Fails = none
 
--- how many bytes are left out
-abbrev pub goneOf : Demangled → ℕ
-goneOf Dropped = 1
-goneOf (Cut at) = 3
-goneOf Fails = 0
-
 -- how many bytes a name has at least that is demangled so
 abbrev pub leastOf : Demangled → ℕ
 leastOf Dropped = 1

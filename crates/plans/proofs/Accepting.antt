@@ -1,16 +1,15 @@
 -- Rows 1 to 14 by their parts: each answer by the facts that lead to it.
-use Prim.Native.Nat.{ℕ, _+_, _-_, _≤_}
-use mathlib.Core.Path.{_≡_, refl, sym, ap, _∙_}
-use mathlib.Core.Bool.{Bool, true, false, not}
-use mathlib.Core.List.{List, [], _∷_, _++_}
+use Prim.Native.Nat.{ℕ, _+_, _-_}
+use mathlib.Core.Path.{_≡_, sym, _∙_}
+use mathlib.Core.Bool.{true, false}
+use mathlib.Core.List.{List, _++_}
 use native.Mathlib.Nat.{sub-zero}
 use native.Mathlib.Omega.{arith}
 use Rattle.wire.specs.Bytes.{Bytes}
 use Rattle.format.specs.Machines.{known, firstMachine, nativeMachine}
-use Rattle.format.specs.Exports.{headerSize, firstCount, nativeCount, bothCounts}
+use Rattle.format.specs.Exports.{firstCount, nativeCount}
 use Rattle.format.specs.Library.{Options}
-use Rattle.format.specs.Refusals.{Row, row, earliest, rowsFrom, machineRows, listRows, nameRows, exportRows, acceptRows, checkList, checkExports}
-use Rattle.format.specs.declared.Checked.{Checked}
+use Rattle.format.specs.Refusals.{Row, earliest, rowsFrom, machineRows, listRows, nameRows, exportRows, acceptRows, checkList, checkExports}
 use Rattle.format.specs.declared.Checked.the-variants.{Fine, Refused}
 use Rattle.format.proofs.Rows.{earliest-given, earliest-passed, earliest-append, andThen-stops, andThen-goes-on}
 

@@ -6,21 +6,18 @@ use mathlib.Core.Option.{Option, none, some, Option·map}
 use mathlib.Core.List.{List, [], _∷_}
 use native.Mathlib.Nat.{add-zero}
 use native.Mathlib.Omega.{arith}
-use lib.Dec.{eqb}
-use lib.ListN.{length}
 use borrow.Author.Tests.{ne-eqb}
 use Rattle.wire.specs.Bytes.{Bytes, if_then_else_, same, orElse}
 use Rattle.format.specs.Machines.{arm64ec}
 use Rattle.format.specs.Names.{hash, apply}
 use Rattle.format.specs.Exports.{Export, isPrivate, exportAt, exportsFrom}
 use Rattle.format.specs.Plan as P
-use Rattle.format.specs.Plan.{Plan, Choice, publicName, choose, planChoice, planPublic, plan}
+use Rattle.format.specs.Plan.{Plan, publicName, choose, planPublic, plan}
 use Rattle.format.specs.Library.{answersTo, lastAnswering}
 use Rattle.laws.proofs.Plans.{choice-final}
 use Rattle.coff.specs.Import.{typeNumber}
-use Rattle.plans.specs.Shape.{sourceOf, shaped}
+use Rattle.plans.specs.Shape.{shaped}
 use Rattle.plans.specs.Keys.{keyAt, lastIn}
-use Rattle.plans.specs.declared.Shape.{Shape}
 use Rattle.plans.specs.declared.Shape.the-variants as H
 
 -- ---- one record

@@ -1,11 +1,10 @@
 -- Laws of choices and plans: each answer by the facts that lead to it.
 use Prim.Native.Nat.{ℕ}
 use mathlib.Core.Path.{_≡_, refl, sym, ap, ap₂, _∙_}
-use mathlib.Core.Bool.{Bool, true, false, _&&_, _||_, not}
-use mathlib.Core.Option.{Option, none, some, Option·getD, Option·none-ne-some}
-use mathlib.Core.List.{List, [], _∷_}
+use mathlib.Core.Bool.{Bool, true, false, _||_, not}
+use mathlib.Core.Option.{none, some, Option·getD}
+use mathlib.Core.List.{[], _∷_}
 use native.Mathlib.Omega.{arith}
-use lib.Dec.{eqb}
 use lib.ListN.{length}
 use borrow.Author.Tests.{eq-eqb, ne-eqb}
 use Rattle.wire.specs.Bytes.{Bytes, if_then_else_, same, starts}
@@ -13,17 +12,13 @@ use Rattle.format.specs.Machines.{i386, arm64ec}
 use Rattle.format.specs.Exports.{Export, fieldAt, absentAt, bytesAt, stringAt, exportAt, noname}
 use Rattle.format.specs.Names.{hash, question, apply, plainType, tagged, demangle}
 use Rattle.format.specs.Plan as P
-use Rattle.format.specs.Plan.{Plan, base, kind, ecCode, free, chooseImport, chooseNamed, choose, exporting, mangled, planChoice, planPublic}
-use Rattle.names.specs.Mangler.{manglingOf, demangledOf}
-use Rattle.names.specs.declared.mangler.Mangling.{Mangling}
+use Rattle.format.specs.Plan.{base, kind, free, chooseImport, chooseNamed, choose, exporting, mangled, planChoice, planPublic}
+use Rattle.names.specs.Mangler.{manglingOf}
 use Rattle.names.specs.declared.mangler.Mangling.the-variants as M
 use Rattle.lists.proofs.Records.{base-name, base-symbol}
-use Rattle.plans.specs.Shape.{sourceOf, otherImport, choiceOf, shaped}
-use Rattle.plans.specs.declared.Source.{Source}
+use Rattle.plans.specs.Shape.{otherImport}
 use Rattle.plans.specs.declared.Source.the-variants as S
-use Rattle.plans.specs.declared.Choice.{Choice}
 use Rattle.plans.specs.declared.Choice.the-variants as C
-use Rattle.plans.specs.declared.Shape.{Shape}
 use Rattle.plans.specs.declared.Shape.the-variants as H
 
 -- ---- import_name
@@ -133,15 +128,6 @@ mangled-cannot f p x t e = pick (not (starts question p || starts hash p)) (star
     pick true b e = cc
     pick false true e = cc
     pick false false e = refl
-
--- a name that is not mangled already keeps its type under either
-pub mangled-stays : (p x : Bytes) (t : ℕ) → (manglingOf p ≡ M.Prefix → ⊥) → mangled false p t x ≡ P.plain p t x
-mangled-stays p x t h = pick (manglingOf p) refl
-  where
-    pick : (m : Mangling) → manglingOf p ≡ m → mangled false p t x ≡ P.plain p t x
-    pick M.Prefix e = absurd (h e)
-    pick M.Mangled e = mangled-already false p x t e
-    pick M.Fails e = mangled-cannot false p x t e
 
 pub exporting-none : (p : Bytes) → demangle p ≡ none → exporting p (demangle p) ≡ P.refused 14
 unfolding exporting

@@ -1,9 +1,9 @@
 -- Laws of a record's public name, and of the rows 11 to 14 by it.
 use Prim.Native.Nat.{ℕ, _+_, _≤_, _<_}
-use mathlib.Core.Path.{_≡_, refl, sym, ap, _∙_}
+use mathlib.Core.Path.{_≡_, refl}
 use mathlib.Core.Bool.{Bool, true, false}
 use mathlib.Core.Option.{Option, none, some, Option·getD}
-use mathlib.Core.List.{List, [], _∷_}
+use mathlib.Core.List.{[], _∷_}
 use native.Mathlib.Omega.{arith}
 use lib.ListN.{length}
 use borrow.Author.Tests.{ne-eqb}
@@ -12,13 +12,11 @@ use Rattle.wire.proofs.Bytes.{length-part}
 use Rattle.format.specs.Machines.{arm64ec}
 use Rattle.format.specs.Exports.{Export, namesAt, offsetOf, lengthOf, fieldAt, absentAt, bytesAt, stringAt, isPrivate, exportAt}
 use Rattle.format.specs.Names.{replace}
-use Rattle.format.specs.Plan.{Plan, plain, deferred, refused, Choice, typed, later, base, renamed, publicName, choose, planChoice, planPublic, plan}
-use Rattle.format.specs.Refusals.{row, earliest, planRows, nameRows}
-use Rattle.format.specs.declared.Checked.{Checked}
+use Rattle.format.specs.Plan.{Plan, Choice, typed, later, base, renamed, publicName, choose, planChoice, planPublic, plan}
+use Rattle.format.specs.Refusals.{earliest, planRows, nameRows}
 use Rattle.format.specs.declared.Checked.the-variants.{Fine, Refused}
 use Rattle.lists.specs.Held.{Held}
-use Rattle.plans.specs.Shape.{sourceOf, shaped}
-use Rattle.plans.specs.declared.Shape.{Shape}
+use Rattle.plans.specs.Shape.{shaped}
 use Rattle.plans.specs.declared.Shape.the-variants as H
 use Rattle.plans.proofs.Choices.{string-some, string-none}
 

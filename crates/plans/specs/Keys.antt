@@ -1,6 +1,6 @@
 -- The last record of a list whose import has a wanted key, by the records' numbers.
 use Prim.Native.Nat.{ℕ, zero, suc, _+_}
-use mathlib.Core.Bool.{Bool, true, false}
+use mathlib.Core.Bool.{Bool, false}
 use mathlib.Core.Option.{Option, none, some}
 use Rattle.wire.specs.Bytes.{Bytes, if_then_else_}
 use Rattle.format.specs.Exports.{isPrivate, exportAt}

@@ -1,8 +1,7 @@
 -- What a plan says that holds no name: of an export and its public name, the choice and the plan that it stands for.
 use Prim.Native.Nat.{ℕ}
-use mathlib.Core.Bool.{Bool, true, false}
-use mathlib.Core.Option.{Option, none, some, Option·getD}
-use mathlib.Core.List.{List, [], _∷_}
+use mathlib.Core.Option.{Option·getD}
+use mathlib.Core.List.{[], _∷_}
 use lib.Dec.{eqb}
 use Rattle.wire.specs.Bytes.{Bytes, if_then_else_, same}
 use Rattle.format.specs.Machines.{arm64ec}

@@ -6,7 +6,6 @@ use lists::record;
 use names::rename;
 use names::search::Place;
 ghost use mathlib.Core.Path.{_≡_};
-ghost use mathlib.Core.Bool.{Bool};
 ghost use mathlib.Core.Option.{some};
 ghost use Prim.Native.Nat.{_-_, _≤_};
 ghost use Rattle.format.specs.Machines.{arm64ec};

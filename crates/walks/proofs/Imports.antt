@@ -1,6 +1,6 @@
 -- The short imports and aliases of a record, by what the functions are told.
 use Prim.Native.Nat.{ℕ, _+_, _-_, _≤_}
-use mathlib.Core.Path.{_≡_, refl, sym, ap, ap₂, _∙_}
+use mathlib.Core.Path.{_≡_, refl, sym, ap, _∙_}
 use mathlib.Core.Bool.{Bool, true, false}
 use mathlib.Core.Option.{Option, none, some, Option·getD}
 use mathlib.Core.List.{List, [], _∷_, _++_, append-nil}
@@ -14,9 +14,9 @@ use Rattle.wire.proofs.Parts.{part-last}
 use Rattle.format.specs.Names.{hash, demangle}
 use Rattle.format.specs.Exports.{Export, fieldAt, offsetOf, lengthOf, absentAt, bytesAt, stringAt, exportAt}
 use Rattle.format.specs.Plan.{kind}
-use Rattle.format.specs.Layouts.{Member, short, weak}
-use Rattle.format.specs.Library.{imp, aliasMembers}
-use Rattle.names.specs.Mangler.{Demangles, demangledOf, leastOf}
+use Rattle.format.specs.Layouts.{Member, short}
+use Rattle.format.specs.Library.{aliasMembers}
+use Rattle.names.specs.Mangler.{Demangles, demangledOf}
 use Rattle.names.specs.declared.mangler.Demangled.{Demangled}
 use Rattle.names.specs.declared.mangler.Demangled.the-variants.{Dropped, Cut, Fails}
 use Rattle.plans.specs.Shape.{sourceOf}

@@ -1,18 +1,18 @@
 -- Laws of members drawn: nothing, one, one list after another; and of the room that they take.
-use Prim.Native.Nat.{ℕ, zero, suc, _+_, _*_, _-_, _≤_, _<_}
+use Prim.Native.Nat.{ℕ, _+_, _*_, _-_, _≤_, _<_}
 use mathlib.Core.Path.{_≡_, refl, sym, ap, ap₂, _∙_}
 use mathlib.Core.Bool.{Bool}
 use mathlib.Core.List.{List, [], _∷_, _++_, map, append-nil, map-append}
 use native.Mathlib.Nat.{add-zero}
 use native.Mathlib.Omega.{arith}
-use lib.ListN.{length, take, drop, length-append, length-map}
+use lib.ListN.{length, length-append, length-map}
 use Rattle.wire.specs.Bytes.{Bytes, le32, join}
 use Rattle.wire.specs.Writes.{over, Wrote}
 use Rattle.wire.proofs.Writes.{over-nil, over-over, over-comm, over-out, length-over, _⨾_}
 use Rattle.format.specs.Names.{stem}
 use Rattle.format.specs.Layouts.{Member, descriptor, nullDescriptor, nullThunk, compatStem, encode}
-use Rattle.format.specs.Library.{setHeaderSize, entrySize, firstMemberAt, directory, setBytes}
-use Rattle.laws.proofs.Totals.{length-directory, length-setBytes}
+use Rattle.format.specs.Library.{entrySize, directory}
+use Rattle.laws.proofs.Totals.{length-directory}
 use Rattle.members.proofs.Runs.{join-append}
 use Rattle.walks.specs.Pen.{Room, Drew, Noted, fixedOf}
 

@@ -3,7 +3,7 @@ use Prim.Native.Nat.{ℕ, zero, suc, _+_, _-_, _≤_, _<_}
 use mathlib.Core.Path.{_≡_, refl, sym, ap, ap₂, _∙_}
 use mathlib.Core.Bool.{Bool, true, false, _&&_, _||_, not}
 use mathlib.Core.Option.{Option, none, some, Option·getD, Option·map}
-use mathlib.Core.List.{List, [], _∷_, _++_, map, append-nil, append-assoc, map-append}
+use mathlib.Core.List.{List, [], _∷_, _++_, map, append-nil, append-assoc}
 use native.Mathlib.Nat.{add-zero}
 use native.Mathlib.Omega.{arith}
 use lib.Dec.{eqb}
@@ -12,10 +12,10 @@ use borrow.Author.Tests.{eq-eqb, ne-eqb, eqb-false}
 use Rattle.wire.specs.Bytes.{Bytes, if_then_else_, same, starts, holds, join, isSome}
 use Rattle.wire.proofs.Bytes.{and-each, not-true}
 use Rattle.format.specs.Machines.{i386, arm64ec}
-use Rattle.format.specs.Names.{hash, question, underscore, at-sign, apply, plainType, replace, tagged, demangle}
+use Rattle.format.specs.Names.{hash, question, underscore, at-sign, plainType, replace, tagged, demangle}
 use Rattle.format.specs.Exports.{Export, fieldAt, absentAt, bytesAt, stringAt, isPrivate, noname, exportAt, exportsFrom}
 use Rattle.format.specs.Plan as P
-use Rattle.format.specs.Plan.{Plan, Choice, base, kind, publicName, free, ecCode, choose, chooseNamed, chooseImport, exporting, mangled, planChoice, planPublic, plan}
+use Rattle.format.specs.Plan.{Plan, base, kind, publicName, free, ecCode, choose, chooseNamed, chooseImport, exporting, mangled, planChoice, planPublic, plan}
 use Rattle.format.specs.Layouts.{Member, short, encode}
 use Rattle.format.specs.Library.{answersTo, final, lastAnswering, shortMember, aliasMembers, aliasOrShort, deferredMember, shorts, deferreds, membersOf}
 use Rattle.laws.proofs.Lengths.{length-encode-short}
@@ -35,7 +35,6 @@ use Rattle.plans.specs.declared.Shape.the-variants as H
 use Rattle.plans.proofs.Choices.{string-none, string-some}
 use Rattle.plans.proofs.Publics.{public-base, public-renamed}
 use Rattle.plans.proofs.Answering.{last-answering-in}
-use Rattle.members.proofs.Runs.{join-append}
 use Rattle.walks.specs.Pen.{Room, Drew}
 use Rattle.walks.specs.Walk.{importOf, direct, drawn, membersAt, membersIn, recordMembers, passMembers}
 use Rattle.walks.proofs.Pens.{room-as, room-sized, room-first, room-next, drew-as, drew-sized, drew-more}

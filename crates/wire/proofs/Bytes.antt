@@ -1,18 +1,17 @@
 -- Laws of the byte strings' tests, parts and fields, grouped by operation.
 use Prim.Native.Nat.{ℕ, zero, suc, _+_, _-_, _*_, _/_, _%_, _≤_, _<_}
 use mathlib.Core.Path.{_≡_, refl, sym, ap, ap₂, _∙_}
-use mathlib.Core.Bool.{Bool, true, false, _&&_, _||_, not, and-false, true≢false}
-use mathlib.Core.Option.{Option, none, some}
+use mathlib.Core.Bool.{Bool, true, false, _&&_, _||_, not, true≢false}
 use mathlib.Core.Logic.{⊎-elim}
-use mathlib.Core.List.{List, [], _∷_, _++_, map, append-nil, append-assoc, List·Memᴰ, List·Memᴰ·head, List·Memᴰ·tail, List·Memᴰ·not-nil, List·Memᴰ·append-cases, Memᴰ·append-left, Memᴰ·append-right}
+use mathlib.Core.List.{List, [], _∷_, _++_, map, List·Memᴰ, List·Memᴰ·head, List·Memᴰ·tail, List·Memᴰ·not-nil, List·Memᴰ·append-cases, Memᴰ·append-left, Memᴰ·append-right}
 use native.Mathlib.Numerals.{add-one}
 use native.Mathlib.Nat.{add-zero, sub-zero, div-div-eq-div-mul, div-lt-iff-lt-mul, mod-add-div, mod-eq-of-lt}
 use native.Mathlib.Omega.{arith}
-use lib.ListN.{length, getD, take, drop, drop-of-length-le, length-append, length-take, length-drop}
-use lib.Seq.{drop-cons, drop-append-add, drop-drop, take-append-seam, drop-append-seam, length-take-le, take-all, take-append-le, drop-append-le, getD-drop, take-nil, take-take}
+use lib.ListN.{length, getD, take, drop, drop-of-length-le, length-take, length-drop}
+use lib.Seq.{drop-cons, drop-append-add, drop-drop, take-append-seam, length-take-le, take-all, take-append-le, drop-append-le, getD-drop, take-nil, take-take}
 use lib.Dec.{eqb}
 use borrow.Author.Tests.{eq-eqb, ne-eqb, eqb-true}
-use Rattle.wire.specs.Bytes.{Bytes, Octets, if_then_else_, le32, u16At, u32At, join, same, holds, starts, before, part}
+use Rattle.wire.specs.Bytes.{Bytes, Octets, if_then_else_, le32, u16At, u32At, join, same, holds, before, part}
 
 -- ---- tests and their parts
 
@@ -115,18 +114,6 @@ same-end s t i h k = rw (drop-of-length-le s h, drop-of-length-le t k)
 
 -- ---- holds
 
-pub holds-here : (c : ℕ) (s : Bytes) (i : ℕ) → i < length s → getD s i 0 ≡ c → holds c (drop i s) ≡ true
-unfolding holds
-holds-here c s i h e = simp (drop-step 0 s i h, eq-eqb _ _ e)
-
-pub holds-later : (c : ℕ) (s : Bytes) (i : ℕ) → i < length s → (getD s i 0 ≡ c → ⊥) → holds c (drop i s) ≡ holds c (drop (i + 1) s)
-unfolding holds
-holds-later c s i h e = simp (drop-step 0 s i h, ne-eqb _ _ e)
-
-pub holds-end : (c : ℕ) (s : Bytes) (i : ℕ) → length s ≤ i → holds c (drop i s) ≡ false
-unfolding holds
-holds-end c s i h = rw (drop-of-length-le s h)
-
 pub holds-append : (c : ℕ) (s t : Bytes) → holds c (s ++ t) ≡ (if holds c s then true else holds c t)
 unfolding holds
 holds-append c [] t = refl
@@ -181,11 +168,6 @@ length-part b at n h = length-take-le n (drop at b) (omega (arith, length-drop a
 pub length-part-le : (b : Bytes) (at n : ℕ) → length (part b at n) ≤ n
 unfolding part
 length-part-le b at n = omega (arith, length-take n (drop at b))
-
--- the part that stands between two others
-pub part-between : (a s r : Bytes) → part (a ++ s ++ r) (length a) (length s) ≡ s
-unfolding part
-part-between a s r = rw (append-assoc a s r, drop-append-seam a (s ++ r), take-append-seam s r)
 
 pub part-seam : (b : Bytes) (at : ℕ) (s r : Bytes) → drop at b ≡ s ++ r → part b at (length s) ≡ s
 unfolding part

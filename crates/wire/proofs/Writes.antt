@@ -12,7 +12,7 @@ use lib.ListN.{length, take, drop, set, getD, length-append, length-drop, length
 use lib.Seq.{drop-cons, drop-drop, drop-append-seam, take-append-seam, take-suc, take-all, length-take-le}
 use Rattle.wire.specs.Bytes.{Bytes, Octets, le16, le32, u16At, u32At, part, same}
 use Rattle.wire.specs.Writes.{over, Wrote, Has, Found}
-use Rattle.wire.proofs.Bytes.{length-part, same-refl, same-eq, u16At-small, u32At-small}
+use Rattle.wire.proofs.Bytes.{same-refl, same-eq, u16At-small, u32At-small}
 use Rattle.wire.proofs.Parts.{part-le16, part-le32, le16-same, le32-same}
 
 -- ---- over
@@ -292,7 +292,3 @@ pub whole-found : {s b : Bytes} {r : ℕ} → Found s 0 b r → s ≡ b → r �
 whole-found {s} {b} {r} f e =
     let k = f .complete (record { inside = omega arith; rest = []; there = e ∙ sym (append-nil b) }) in
     omega (arith, ap length e)
-
--- a part of s stands where it was taken
-pub found-part : (s : Bytes) (at n : ℕ) → at + n ≤ length s → Found s at (part s at n) (at + n)
-found-part s at n h = found-there s at (part s at n) n (length-part s at n h) h refl

@@ -5,7 +5,6 @@
 // run of calls is one call of all its bytes, with nothing to show in between (`_⨾_`, `_⨟_` of proofs/Writes.antt).
 ghost use Prim.Native.Nat.{_+_, _-_, _≤_, _<_, min};
 ghost use mathlib.Core.Path.{_≡_};
-ghost use mathlib.Core.Bool.{Bool};
 ghost use mathlib.Core.List.{[], _∷_};
 ghost use lib.ListN.{length, drop};
 ghost use Rattle.wire.specs.Bytes.{le16, le32, zeros, u16At, u32At, part, same, holds, before};

@@ -1,5 +1,5 @@
 -- `crepedum::check_word` meets its contract.
-use mathlib.Core.Path.{ap, sym, _∙_}
+use mathlib.Core.Path.{ap, sym}
 use Rattle.crepedum.specs.Words.{checkWord}
 use borrow.Author.Needs.{needs}
 use Rattle.crepedum.proofs.check_word.Statement.{statement}

@@ -1,5 +1,5 @@
 -- `library::write` meets its contract.
-use mathlib.Core.Path.{refl, sym, ap, _∙_}
+use mathlib.Core.Path.{sym, _∙_}
 use Rattle.coff.proofs.Table.{known-machine, unknown-number}
 use Rattle.plans.proofs.Accepting.{accept-1}
 use Rattle.library.proofs.MemberSets.{written-stop}
@@ -14,10 +14,18 @@ returns-2 : tie.Need-returns-2
 returns-2 c = written-stop _ _ _ 1 0 (sym (accept-1 _ _ (unknown-number _ (sym (c .before .before .find-machine .ensures) ∙ c .enum-told2 .given .1))))
 
 write-accepted-requires : tie.Need-write-accepted-requires
-write-accepted-requires c κs = let (n, is) = known-machine _ _ (sym (c .before .before .before .before .find-machine .ensures) ∙ c .before .before .m .given .1) in (rw n (sym (c .before .before .before .before .before .before .before .check-exports .ensures _) ∙ c .before .before .before .before .before .enum-told .given .1), is)
+write-accepted-requires c κs =
+    let c₄ = c .before .before .before .before in
+    let c₅ = c₄ .before in
+    let c₇ = c₅ .before .before in
+    let (n, is) = known-machine _ _ (sym (c₄ .find-machine .ensures) ∙ c .before .before .m .given .1) in
+    (rw n (sym (c₇ .check-exports .ensures _) ∙ c₅ .enum-told .given .1), is)
 
 returns-3 : tie.Need-returns-3
-returns-3 c = rw (known-machine _ _ (sym (c .before .before .before .before .before .before .before .find-machine .ensures) ∙ c .before .before .before .before .before .m .given .1) .0) at (c .before .before .write-accepted .ensures)
+returns-3 c =
+    let c₅ = c .before .before .before .before .before in
+    let c₇ = c₅ .before .before in
+    rw (known-machine _ _ (sym (c₇ .find-machine .ensures) ∙ c₅ .m .given .1) .0) at (c .before .before .write-accepted .ensures)
 
 pub write-spec : {M : Type 1} → statement M
 write-spec =

@@ -12,16 +12,22 @@ returns c = dll-stop _ _ _ (sym (c .before .before .before .check-string .ensure
 
 part-requires : tie.Need-part-requires
 part-requires c κs =
-    omega (arith, string-within _ _ _ _ _ (sym (c .before .before .before .before .before .check-string .ensures) ∙ c .before .before .before .enum-told .given .1))
+    let c₃ = c .before .before .before in
+    let c₅ = c₃ .before .before in
+    omega (arith, string-within _ _ _ _ _ (sym (c₅ .check-string .ensures) ∙ c₃ .enum-told .given .1))
 
 returns-2 : tie.Need-returns-2
 returns-2 c =
-    dll-10 _ _ _ (sym (c .before .before .before .before .before .before .before .before .check-string .ensures) ∙ c .before .before .before .before .before .before .enum-told .given .1)
+    let c₆ = c .before .before .before .before .before .before in
+    let c₈ = c₆ .before .before in
+    dll-10 _ _ _ (sym (c₈ .check-string .ensures) ∙ c₆ .enum-told .given .1)
     (sym (ap barredDll (c .before .before .part .ensures)) ∙ sym (c .before .barred .ensures) ∙ c .if1 .taken) (omega arith) (omega arith)
 
 returns-3 : tie.Need-returns-3
 returns-3 c =
-    dll-fine _ _ _ (sym (c .before .before .before .before .before .before .before .before .check-string .ensures) ∙ c .before .before .before .before .before .before .enum-told .given .1)
+    let c₆ = c .before .before .before .before .before .before in
+    let c₈ = c₆ .before .before in
+    dll-fine _ _ _ (sym (c₈ .check-string .ensures) ∙ c₆ .enum-told .given .1)
     (sym (ap barredDll (c .before .before .part .ensures)) ∙ sym (c .before .barred .ensures) ∙ c .if1 .left) (omega arith) (omega arith)
 
 pub check-dll-spec : {M : Type 1} → statement M

@@ -18,8 +18,10 @@ loop-holds c = (search needs, refl)
 
 returns : tie.Need-returns Inv-loop μ-loop
 returns c =
-    sym (c .before .before .before .before .before .loop .inv .1
-    ∙ rows-stop _ _ _ _ _ (c .before .before .before .before .loop-test .taken) (sym (c .before .before .before .check-field .ensures) ∙ c .before .checked .given .1))
+    let c₃ = c .before .before .before in
+    let c₄ = c₃ .before in
+    let c₅ = c₄ .before in
+    sym (c₅ .loop .inv .1 ∙ rows-stop _ _ _ _ _ (c₄ .loop-test .taken) (sym (c₃ .check-field .ensures) ∙ c .before .checked .given .1))
 
 loop-again : tie.Need-loop-again Inv-loop μ-loop
 loop-again c = (

@@ -10,7 +10,10 @@ returns : tie.Need-returns
 returns c = rest-stop _ _ _ (sym (c .before .before .before .check-dll .ensures) ∙ c .before .dll .given .1)
 
 returns-2 : tie.Need-returns-2
-returns-2 c = c .check-records .ensures ∙ rest-records _ _ (sym (c .before .before .before .before .before .check-dll .ensures) ∙ c .before .before .before .enum-told .given .1) (omega arith)
+returns-2 c =
+    let c₃ = c .before .before .before in
+    let c₅ = c₃ .before .before in
+    c .check-records .ensures ∙ rest-records _ _ (sym (c₅ .check-dll .ensures) ∙ c₃ .enum-told .given .1) (omega arith)
 
 pub check-rest-spec : {M : Type 1} → statement M
 check-rest-spec =

@@ -20,22 +20,18 @@ add-types c =
 
 returns : tie.Need-returns
 returns c =
-    let c₃ = c .before .before in
-    let c₂ = c₃ .before .before .before in
-    let c₁ = c₂ .before in
-    let s = c₁ .before .before .before .before .before .before in
-    let a = s .args in
-    wrote-as (short-exported (a .machine) (a .ordinal) _ _ _ _ (a .sym .now) (a .dll .now) (a .head .now ++ a .tail .now) (c₁ .number .ensures) (c₂ .number2 .ensures) (c .before .before .before .before .if1 .taken))
+    let c₄ = c .before .before .before .before in
+    let c₃ = c .before .before in let c₂ = c₃ .before .before .before in let c₁ = c₂ .before in let s = c₁ .before .before .before .before .before
+    .before in let a = s .args in wrote-as
+    (short-exported (a .machine) (a .ordinal) _ _ _ _ (a .sym .now) (a .dll .now) (a .head .now ++ a .tail .now) (c₁ .number .ensures) (c₂ .number2 .ensures) (c₄ .if1 .taken))
     (c₃ .put-short-as .ensures)
 
 returns-2 : tie.Need-returns-2
 returns-2 c =
-    let c₃ = c .before .before in
-    let c₂ = c₃ .before .before .before in
-    let c₁ = c₂ .before in
-    let s = c₁ .before .before .before .before .before .before in
-    let a = s .args in
-    wrote-as (short-plain (a .machine) (a .ordinal) _ _ _ _ (a .sym .now) (a .dll .now) (a .head .now ++ a .tail .now) (c₁ .number .ensures) (c₂ .number2 .ensures) (c .before .before .before .before .if1 .left))
+    let c₄ = c .before .before .before .before in
+    let c₃ = c .before .before in let c₂ = c₃ .before .before .before in let c₁ = c₂ .before in let s = c₁ .before .before .before .before .before
+    .before in let a = s .args in wrote-as
+    (short-plain (a .machine) (a .ordinal) _ _ _ _ (a .sym .now) (a .dll .now) (a .head .now ++ a .tail .now) (c₁ .number .ensures) (c₂ .number2 .ensures) (c₄ .if1 .left))
     (c₃ .put-short .ensures)
 
 pub create-short-import-spec : {M : Type 1} → statement M

@@ -1,6 +1,6 @@
 -- `plans::choose_other` meets its contract.
-use mathlib.Core.Path.{_≡_, refl, sym, ap, ap₂, _∙_}
-use Rattle.plans.specs.Shape.{sourceOf, choiceOf, shaped}
+use mathlib.Core.Path.{sym, _∙_}
+use Rattle.plans.specs.Shape.{sourceOf, choiceOf}
 use Rattle.plans.proofs.Choices.{other-ec, other-same, other-later}
 use borrow.Author.Needs.{needs}
 use Rattle.plans.proofs.choose_other.Statement.{statement}

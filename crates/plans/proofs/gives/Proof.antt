@@ -1,5 +1,5 @@
 -- `plans::gives` meets its contract.
-use mathlib.Core.Path.{_≡_, refl, sym, ap, ap₂, _∙_}
+use mathlib.Core.Path.{_∙_}
 use Rattle.plans.proofs.Choices.{gives-is}
 use borrow.Author.Needs.{needs}
 use Rattle.plans.proofs.gives.Statement.{statement}

@@ -1,9 +1,8 @@
 -- `plans::mangle_free` meets its contract.
-use mathlib.Core.Path.{_≡_, refl, sym, ap, ap₂, _∙_}
+use mathlib.Core.Path.{sym, ap, _∙_}
 use mathlib.Core.Bool.{true}
-use mathlib.Core.Option.{some}
 use Rattle.names.specs.Mangler.{demangledOf}
-use Rattle.plans.specs.Shape.{sourceOf, choiceOf, shaped}
+use Rattle.plans.specs.Shape.{sourceOf, shaped}
 use Rattle.plans.proofs.Choices.{mangled-prefix, mangled-already, mangled-cannot, exporting-none, exporting-some}
 use borrow.Author.Needs.{needs}
 use Rattle.plans.proofs.mangle_free.Statement.{statement}
@@ -44,15 +43,27 @@ returns c = λ e t x. sym (mangled-prefix true _ x t (sym (c .before .before .ge
 
 returns-2 : tie.Need-returns-2
 unfolding shaped demangledOf
-returns-2 c = λ e t x. sym (mangled-already true _ x t (sym (c .before .before .before .before .before .get-arm64ec-mangled-function-name .ensures) ∙ c .before .before .before .enum-told2 .given .1) ∙ exporting-none _ (sym (c .before .before .get-arm64ec-demangled-function-name .ensures .name) ∙ ap (demangledOf _) (c .enum-told3 .given .1)))
+returns-2 c =
+    let c₃ = c .before .before .before in
+    let c₅ = c₃ .before .before in
+    λ e t x. sym
+    (mangled-already true _ x t (sym (c₅ .get-arm64ec-mangled-function-name .ensures) ∙ c₃ .enum-told2 .given .1) ∙ exporting-none _ (sym (c .before .before .get-arm64ec-demangled-function-name .ensures .name) ∙ ap (demangledOf _) (c .enum-told3 .given .1)))
 
 returns-3 : tie.Need-returns-3
 unfolding shaped sourceOf demangledOf
-returns-3 c = λ e t x. sym (mangled-already true _ x t (sym (c .before .before .before .before .before .get-arm64ec-mangled-function-name .ensures) ∙ c .before .before .before .enum-told2 .given .1) ∙ exporting-some _ _ (sym (c .before .before .get-arm64ec-demangled-function-name .ensures .name) ∙ ap (demangledOf _) (c .enum-told4 .given .1)))
+returns-3 c =
+    let c₃ = c .before .before .before in
+    let c₅ = c₃ .before .before in
+    λ e t x. sym
+    (mangled-already true _ x t (sym (c₅ .get-arm64ec-mangled-function-name .ensures) ∙ c₃ .enum-told2 .given .1) ∙ exporting-some _ _ (sym (c .before .before .get-arm64ec-demangled-function-name .ensures .name) ∙ ap (demangledOf _) (c .enum-told4 .given .1)))
 
 returns-4 : tie.Need-returns-4
 unfolding shaped sourceOf demangledOf
-returns-4 c = λ e t x. sym (mangled-already true _ x t (sym (c .before .before .before .before .before .get-arm64ec-mangled-function-name .ensures) ∙ c .before .before .before .enum-told2 .given .1) ∙ exporting-some _ _ (sym (c .before .before .get-arm64ec-demangled-function-name .ensures .name) ∙ ap (demangledOf _) (c .enum-told5 .given .1)))
+returns-4 c =
+    let c₃ = c .before .before .before in
+    let c₅ = c₃ .before .before in
+    λ e t x. sym
+    (mangled-already true _ x t (sym (c₅ .get-arm64ec-mangled-function-name .ensures) ∙ c₃ .enum-told2 .given .1) ∙ exporting-some _ _ (sym (c .before .before .get-arm64ec-demangled-function-name .ensures .name) ∙ ap (demangledOf _) (c .enum-told5 .given .1)))
 
 returns-5 : tie.Need-returns-5
 unfolding shaped

@@ -1,7 +1,7 @@
 -- `plans::mangle_set` meets its contract.
-use mathlib.Core.Path.{_≡_, refl, sym, ap, ap₂, _∙_}
+use mathlib.Core.Path.{sym, _∙_}
 use mathlib.Core.Bool.{false}
-use Rattle.plans.specs.Shape.{sourceOf, choiceOf, shaped}
+use Rattle.plans.specs.Shape.{shaped}
 use Rattle.plans.proofs.Choices.{mangled-prefix, mangled-already, mangled-cannot}
 use borrow.Author.Needs.{needs}
 use Rattle.plans.proofs.mangle_set.Statement.{statement}

@@ -1,16 +1,21 @@
 -- `plans::plain_type` meets its contract.
-use mathlib.Core.Path.{sym, ap, _∙_}
-use Rattle.lists.proofs.Records.{base-name, base-symbol}
+use mathlib.Core.Path.{sym, _∙_}
 use Rattle.plans.proofs.Choices.{plain-own, plain-both}
 use borrow.Author.Needs.{needs}
 use Rattle.plans.proofs.plain_type.Statement.{statement}
 use Rattle.plans.proofs.plain_type.Tie as tie
 
 returns : tie.Need-returns
-returns c = plain-own _ _ _ _ (c .get-own-type .ensures) (c .before .before .before .string .ensures) (sym (c .before .before .absent .ensures) ∙ c .before .if1 .taken)
+returns c =
+    let c₃ = c .before .before .before in
+    plain-own _ _ _ _ (c .get-own-type .ensures) (c₃ .string .ensures) (sym (c .before .before .absent .ensures) ∙ c .before .if1 .taken)
 
 returns-2 : tie.Need-returns-2
-returns-2 c = plain-both _ _ _ _ (c .get-name-type .ensures) (c .before .string2 .ensures) (c .before .before .before .before .string .ensures) (sym (c .before .before .before .absent .ensures) ∙ c .before .before .if1 .left)
+returns-2 c =
+    let c₃ = c .before .before .before in
+    let c₄ = c₃ .before in
+    plain-both _ _ _ _ (c .get-name-type .ensures) (c .before .string2 .ensures) (c₄ .string .ensures)
+    (sym (c₃ .absent .ensures) ∙ c .before .before .if1 .left)
 
 pub plain-type-spec : {M : Type 1} → statement M
 plain-type-spec =

@@ -1,8 +1,6 @@
 -- `plans::shape_typed` meets its contract.
-use mathlib.Core.Path.{_≡_, refl, sym, ap, ap₂, _∙_}
-use mathlib.Core.Bool.{true, false}
-use Rattle.format.specs.Plan.{free, mangled}
-use Rattle.plans.specs.Shape.{sourceOf, choiceOf, shaped}
+use mathlib.Core.Path.{sym, _∙_}
+use Rattle.plans.specs.Shape.{shaped}
 use Rattle.plans.proofs.Choices.{plan-ec, plan-data, plan-off, mangled-by}
 use borrow.Author.Needs.{needs}
 use Rattle.plans.proofs.shape_typed.Statement.{statement}
@@ -28,19 +26,31 @@ mangle-free-requires : tie.Need-mangle-free-requires
 mangle-free-requires c κs = search needs
 
 returns : tie.Need-returns
-returns c = c .mangle-free .ensures _ _ _ ∙ mangled-by _ _ _ (sym (c .before .before .is-free .ensures) ∙ c .before .if3 .taken)
-    ∙ plan-ec _ _ _ _ _ (c .before .before .before .before .before .before .if1 .taken) (sym (c .before .before .before .before .before .import-type .ensures) ∙ sym (c .before .before .before .before .number .ensures) ∙ c .before .before .before .if2 .taken)
+returns c =
+    let c₃ = c .before .before .before in
+    let c₄ = c₃ .before in
+    let c₅ = c₄ .before in
+    let c₆ = c₅ .before in
+    c .mangle-free .ensures _ _ _ ∙ mangled-by _ _ _ (sym (c .before .before .is-free .ensures) ∙ c .before .if3 .taken) ∙ plan-ec _ _ _ _ _
+    (c₆ .if1 .taken) (sym (c₅ .import-type .ensures) ∙ sym (c₄ .number .ensures) ∙ c₃ .if2 .taken)
 
 mangle-set-requires : tie.Need-mangle-set-requires
 mangle-set-requires c κs = search needs
 
 returns-2 : tie.Need-returns-2
-returns-2 c = c .mangle-set .ensures _ ∙ mangled-by _ _ _ (sym (c .before .before .is-free .ensures) ∙ c .before .if3 .left)
-    ∙ plan-ec _ _ _ _ _ (c .before .before .before .before .before .before .if1 .taken) (sym (c .before .before .before .before .before .import-type .ensures) ∙ sym (c .before .before .before .before .number .ensures) ∙ c .before .before .before .if2 .taken)
+returns-2 c =
+    let c₃ = c .before .before .before in
+    let c₄ = c₃ .before in
+    let c₅ = c₄ .before in
+    let c₆ = c₅ .before in
+    c .mangle-set .ensures _ ∙ mangled-by _ _ _ (sym (c .before .before .is-free .ensures) ∙ c .before .if3 .left) ∙ plan-ec _ _ _ _ _
+    (c₆ .if1 .taken) (sym (c₅ .import-type .ensures) ∙ sym (c₄ .number .ensures) ∙ c₃ .if2 .taken)
 
 returns-3 : tie.Need-returns-3
 unfolding shaped
-returns-3 c = plan-data _ _ _ _ _ (c .before .before .before .if1 .taken) (λ k. c .if2 .left (c .before .number .ensures ∙ c .before .before .import-type .ensures ∙ k))
+returns-3 c =
+    let c₃ = c .before .before .before in
+    plan-data _ _ _ _ _ (c₃ .if1 .taken) (λ k. c .if2 .left (c .before .number .ensures ∙ c .before .before .import-type .ensures ∙ k))
 
 returns-4 : tie.Need-returns-4
 unfolding shaped

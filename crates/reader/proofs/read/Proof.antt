@@ -30,9 +30,10 @@ read-object-requires c κs =
 
 returns-4 : tie.Need-returns-4
 returns-4 c =
-    let h = c .before .before .before .before .before .before .before .read .ensures in
-    answer-object _ (λ z. c .before .before .before .before .before .if2 .left (ap (λ (h : FileHeader). h .machine) h ∙ z)) (ap (λ (h : FileHeader). h .«number_of_symbols») h)
-    (ap (λ (h : FileHeader). h .«number_of_sections») h) (c .read-object .ensures)
+    let c₅ = c .before .before .before .before .before in
+    let c₇ = c₅ .before .before in
+    let h = c₇ .read .ensures in answer-object _ (λ z. c₅ .if2 .left (ap (λ (h : FileHeader). h .machine) h ∙ z))
+    (ap (λ (h : FileHeader). h .«number_of_symbols») h) (ap (λ (h : FileHeader). h .«number_of_sections») h) (c .read-object .ensures)
 
 pub read-spec : {M : Type 1} → statement M
 read-spec =

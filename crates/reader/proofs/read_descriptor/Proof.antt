@@ -18,8 +18,9 @@ admits-dll-requires c κs = clear-as _ _ (c .text .ensures)
 
 returns : tie.Need-returns
 returns c =
-    let p = c .before .before .before .before .pre in
-    barred _ _ (descriptor-barred _ (ap ordinary (sym (p .1)) ∙ p .0 .ordinary) (c .before .before .text .ensures) (sym (c .before .admits-dll .ensures) ∙ not-true _ (c .if1 .taken)))
+    let c₄ = c .before .before .before .before in
+    let p = c₄ .pre in barred _ _
+    (descriptor-barred _ (ap ordinary (sym (p .1)) ∙ p .0 .ordinary) (c .before .before .text .ensures) (sym (c .before .admits-dll .ensures) ∙ not-true _ (c .if1 .taken)))
 
 part-requires : tie.Need-part-requires
 part-requires c κs = omega (arith, c .stem .ensures .size, stem-short (c .before .before .before .text .result .now))
@@ -32,13 +33,18 @@ descriptor-size-requires c κs =
 
 as-descriptor-requires : tie.Need-as-descriptor-requires
 as-descriptor-requires c κs =
-    let s = c .before .before .before .before .before .before .before in
-    (s .pre .0, (sym (c .before .before .before .before .admits-dll .ensures) ∙ not-false _ (c .before .before .before .if1 .left), stem-part (c .before .part .ensures) (c .before .before .stem .ensures)))
+    let c₃ = c .before .before .before in
+    let c₄ = c₃ .before in
+    let c₆ = c₄ .before .before in
+    let s = c₆ .before in
+    (s .pre .0, (sym (c₄ .admits-dll .ensures) ∙ not-false _ (c₃ .if1 .left), stem-part (c .before .part .ensures) (c .before .before .stem .ensures)))
 
 returns-2 : tie.Need-returns-2
 returns-2 c =
-    let s = c .before .before .before .before .before .before .before .before in
-    c .as-descriptor .ensures ∙ ap (answer (s .args .b .now)) (descriptor-guessed _ (s .pre .1) (c .before .before .before .before .before .before .text .ensures) (c .before .descriptor-size .ensures _) refl)
+    let c₆ = c .before .before .before .before .before .before in
+    let c₇ = c₆ .before in
+    let s = c₇ .before in c .as-descriptor .ensures ∙ ap (answer (s .args .b .now))
+    (descriptor-guessed _ (s .pre .1) (c₆ .text .ensures) (c .before .descriptor-size .ensures _) refl)
 
 pub read-descriptor-spec : {M : Type 1} → statement M
 read-descriptor-spec =

@@ -11,25 +11,32 @@ use Rattle.reader.proofs.read_null_descriptor.Tie as tie
 
 returns : tie.Need-returns
 returns c =
-    let s = c .before .before .before .before .before .before in
-    c .as-null-descriptor .ensures
-    ∙ ap (answer (s .args .b .now)) (null-plain-guessed _ (s .pre .1) (c .before .before .before .before .text .ensures) (sym (c .before .before .same .ensures) ∙ c .before .if1 .taken))
+    let c₄ = c .before .before .before .before in
+    let c₅ = c₄ .before in
+    let s = c₅ .before in c .as-null-descriptor .ensures ∙ ap (answer (s .args .b .now))
+    (null-plain-guessed _ (s .pre .1) (c₄ .text .ensures) (sym (c .before .before .same .ensures) ∙ c .before .if1 .taken))
 
 returns-2 : tie.Need-returns-2
 returns-2 c =
-    let p = c .before .before .before .before .before .before .pre in
-    null-barred _ (p .0 .ordinary) (p .1) (c .before .before .before .before .text .ensures) (sym (c .before .before .same .ensures) ∙ c .before .if1 .left) (omega arith)
+    let c₄ = c .before .before .before .before in
+    let c₆ = c₄ .before .before in
+    let p = c₆ .pre in null-barred _ (p .0 .ordinary) (p .1) (c₄ .text .ensures) (sym (c .before .before .same .ensures) ∙ c .before .if1 .left)
+    (omega arith)
 
 as-null-descriptor-of-requires : tie.Need-as-null-descriptor-of-requires
 as-null-descriptor-of-requires c κs =
-    (c .before .before .before .before .before .before .before .pre .0, ap (holds 0) (c .part .ensures) ∙ part-clear _ _ _ (clear-as _ _ (c .before .before .before .before .before .text .ensures)))
+    let c₅ = c .before .before .before .before .before in
+    let c₇ = c₅ .before .before in
+    (c₇ .pre .0, ap (holds 0) (c .part .ensures) ∙ part-clear _ _ _ (clear-as _ _ (c₅ .text .ensures)))
 
 returns-3 : tie.Need-returns-3
 returns-3 c =
-    let s = c .before .before .before .before .before .before .before .before in
-    c .as-null-descriptor-of .ensures
-    ∙ ap (answer (s .args .b .now))
-    (null-of-guessed _ (s .pre .1) (c .before .before .before .before .before .before .text .ensures) (sym (c .before .before .before .before .same .ensures) ∙ c .before .before .before .if1 .left) (c .before .part .ensures ∙ part-rest _ 25 (omega arith)))
+    let c₃ = c .before .before .before in
+    let c₄ = c₃ .before in
+    let c₆ = c₄ .before .before in
+    let c₇ = c₆ .before in
+    let s = c₇ .before in c .as-null-descriptor-of .ensures ∙ ap (answer (s .args .b .now))
+    (null-of-guessed _ (s .pre .1) (c₆ .text .ensures) (sym (c₄ .same .ensures) ∙ c₃ .if1 .left) (c .before .part .ensures ∙ part-rest _ 25 (omega arith)))
 
 pub read-null-descriptor-spec : {M : Type 1} → statement M
 read-null-descriptor-spec =

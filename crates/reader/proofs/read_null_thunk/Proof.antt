@@ -16,13 +16,16 @@ returns c =
 
 as-null-thunk-requires : tie.Need-as-null-thunk-requires
 as-null-thunk-requires c κs =
-    (c .before .before .before .before .before .pre .0, ap (holds 0) (c .part .ensures) ∙ part-clear _ _ _ (clear-as _ _ (c .before .before .text .ensures)))
+    let c₅ = c .before .before .before .before .before in
+    (c₅ .pre .0, ap (holds 0) (c .part .ensures) ∙ part-clear _ _ _ (clear-as _ _ (c .before .before .text .ensures)))
 
 returns-2 : tie.Need-returns-2
 returns-2 c =
-    let s = c .before .before .before .before .before .before in
-    c .as-null-thunk .ensures
-    ∙ ap (answer (s .args .b .now)) (thunk-guessed _ (s .pre .1) (c .before .before .before .before .thunk-strings-at .ensures .0) (c .before .before .before .text .ensures) (c .before .part .ensures))
+    let c₃ = c .before .before .before in
+    let c₄ = c₃ .before in
+    let c₅ = c₄ .before in
+    let s = c₅ .before in c .as-null-thunk .ensures ∙ ap (answer (s .args .b .now))
+    (thunk-guessed _ (s .pre .1) (c₄ .thunk-strings-at .ensures .0) (c₃ .text .ensures) (c .before .part .ensures))
 
 pub read-null-thunk-spec : {M : Type 1} → statement M
 read-null-thunk-spec =

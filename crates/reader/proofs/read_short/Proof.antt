@@ -30,9 +30,12 @@ as-short-as-requires c κs = (
 
 returns-2 : tie.Need-returns-2
 returns-2 c =
-    let s = c .before .before .before .before .before .before .before .before .before in
-    c .as-short-as .ensures
-    ∙ ap (answer (s .args .b .now)) (short-as-guessed _ (c .before .before .before .before .before .before .before .read .ensures) (c .before .before .before .before .text .ensures) (c .before .before .before .text2 .ensures) (c .before .text3 .ensures) (c .before .before .if2 .taken))
+    let c₃ = c .before .before .before in
+    let c₄ = c₃ .before in
+    let c₇ = c₄ .before .before .before in
+    let c₈ = c₇ .before in
+    let s = c₈ .before in c .as-short-as .ensures ∙ ap (answer (s .args .b .now))
+    (short-as-guessed _ (c₇ .read .ensures) (c₄ .text .ensures) (c₃ .text2 .ensures) (c .before .text3 .ensures) (c .before .before .if2 .taken))
 
 as-short-requires : tie.Need-as-short-requires
 as-short-requires c κs = (
@@ -42,9 +45,11 @@ as-short-requires c κs = (
 
 returns-3 : tie.Need-returns-3
 returns-3 c =
-    let s = c .before .before .before .before .before .before .before .before in
-    c .as-short .ensures
-    ∙ ap (answer (s .args .b .now)) (short-plain-guessed _ (c .before .before .before .before .before .before .read .ensures) (c .before .before .before .text .ensures) (c .before .before .text2 .ensures) (c .before .if2 .left))
+    let c₃ = c .before .before .before in
+    let c₆ = c₃ .before .before .before in
+    let c₇ = c₆ .before in
+    let s = c₇ .before in c .as-short .ensures ∙ ap (answer (s .args .b .now))
+    (short-plain-guessed _ (c₆ .read .ensures) (c₃ .text .ensures) (c .before .before .text2 .ensures) (c .before .if2 .left))
 
 pub read-short-spec : {M : Type 1} → statement M
 read-short-spec =

@@ -11,13 +11,21 @@ returns-2 : tie.Need-returns-2
 returns-2 c = filled-nowhere _ (c .before .before .before .args .fields .now) (c .enum-told2 .given .1)
 
 returns-3 : tie.Need-returns-3
-returns-3 c = filled-ordinal _ (c .before .before .before .before .before .before .before .before .before .args .fields .now) (c .before .before .before .before .before .before .looked .given .1) (c .before .before .put-all .ensures)
+returns-3 c =
+    let c₆ = c .before .before .before .before .before .before in
+    let c₉ = c₆ .before .before .before in
+    filled-ordinal _ (c₉ .args .fields .now) (c₆ .looked .given .1) (c .before .before .put-all .ensures)
 
 put-name-requires : tie.Need-put-name-requires
-put-name-requires c κs = let p = c .before .before .before .before .before .pre in (p .0, short-name _ _ (c .before .before .looked2 .given .1) (p .1))
+put-name-requires c κs =
+    let c₅ = c .before .before .before .before .before in
+    let p = c₅ .pre in (p .0, short-name _ _ (c .before .before .looked2 .given .1) (p .1))
 
 returns-4 : tie.Need-returns-4
-returns-4 c = filled-name _ (c .before .before .before .before .before .before .before .before .args .fields .now) (c .before .before .before .before .before .looked2 .given .1) (c .before .before .put-name .ensures)
+returns-4 c =
+    let c₅ = c .before .before .before .before .before in
+    let c₈ = c₅ .before .before .before in
+    filled-name _ (c₈ .args .fields .now) (c₅ .looked2 .given .1) (c .before .before .put-name .ensures)
 
 returns-5 : tie.Need-returns-5
 returns-5 c = filled-refusal _ (c .before .before .before .before .args .fields .now) (c .before .looked3 .given .1)

@@ -13,8 +13,9 @@ put-values-requires c κs =
 
 returns : tie.Need-returns
 returns c =
-    let s = c .before .before .before .before .before .before .before .before in
-    filled-descriptor (s .args .read) (s .args .fields .now) _ (c .before .before .before .before .before .read .given .1) (c .before .before .put-values .ensures)
+    let c₅ = c .before .before .before .before .before in
+    let c₇ = c₅ .before .before in
+    let s = c₇ .before in filled-descriptor (s .args .read) (s .args .fields .now) _ (c₅ .read .given .1) (c .before .before .put-values .ensures)
 
 put-values-requires-2 : tie.Need-put-values-requires-2
 put-values-requires-2 c κs =
@@ -25,8 +26,9 @@ put-values-requires-2 c κs =
 
 returns-2 : tie.Need-returns-2
 returns-2 c =
-    let s = c .before .before .before .before .before .before .before .before in
-    filled-null (s .args .read) (s .args .fields .now) _ (c .before .before .before .before .before .read2 .given .1) (c .before .before .put-values2 .ensures)
+    let c₅ = c .before .before .before .before .before in
+    let c₇ = c₅ .before .before in
+    let s = c₇ .before in filled-null (s .args .read) (s .args .fields .now) _ (c₅ .read2 .given .1) (c .before .before .put-values2 .ensures)
 
 put-values-requires-3 : tie.Need-put-values-requires-3
 put-values-requires-3 c κs =
@@ -37,8 +39,9 @@ put-values-requires-3 c κs =
 
 returns-3 : tie.Need-returns-3
 returns-3 c =
-    let s = c .before .before .before .before .before .before .before .before in
-    filled-thunk (s .args .read) (s .args .fields .now) _ (c .before .before .before .before .before .read3 .given .1) (c .before .before .put-values3 .ensures)
+    let c₅ = c .before .before .before .before .before in
+    let c₇ = c₅ .before .before in
+    let s = c₇ .before in filled-thunk (s .args .read) (s .args .fields .now) _ (c₅ .read3 .given .1) (c .before .before .put-values3 .ensures)
 
 put-values-requires-4 : tie.Need-put-values-requires-4
 put-values-requires-4 c κs =
@@ -49,8 +52,9 @@ put-values-requires-4 c κs =
 
 returns-4 : tie.Need-returns-4
 returns-4 c =
-    let s = c .before .before .before .before .before .before .before .before in
-    filled-short (s .args .read) (s .args .fields .now) _ (c .before .before .before .before .before .read4 .given .1) (c .before .before .put-values4 .ensures)
+    let c₅ = c .before .before .before .before .before in
+    let c₇ = c₅ .before .before in
+    let s = c₇ .before in filled-short (s .args .read) (s .args .fields .now) _ (c₅ .read4 .given .1) (c .before .before .put-values4 .ensures)
 
 put-values-requires-5 : tie.Need-put-values-requires-5
 put-values-requires-5 c κs =
@@ -61,8 +65,9 @@ put-values-requires-5 c κs =
 
 returns-5 : tie.Need-returns-5
 returns-5 c =
-    let s = c .before .before .before .before .before .before .before .before in
-    filled-weak (s .args .read) (s .args .fields .now) _ (c .before .before .before .before .before .read5 .given .1) (c .before .before .put-values5 .ensures)
+    let c₅ = c .before .before .before .before .before in
+    let c₇ = c₅ .before .before in
+    let s = c₇ .before in filled-weak (s .args .read) (s .args .fields .now) _ (c₅ .read5 .given .1) (c .before .before .put-values5 .ensures)
 
 returns-6 : tie.Need-returns-6
 returns-6 c =

@@ -4,7 +4,9 @@ use Rattle.crepedum.proofs.reading.put_values.Statement.{statement}
 use Rattle.crepedum.proofs.reading.put_values.Tie as tie
 
 returns : tie.Need-returns
-returns c = rw (c .before .before .before .before .before .before .before .before .before .before .before .bit .ensures) at (c .before .before .put-all .ensures)
+returns c =
+    let c₁₁ = c .before .before .before .before .before .before .before .before .before .before .before in
+    rw (c₁₁ .bit .ensures) at (c .before .before .put-all .ensures)
 
 pub put-values-spec : {M : Type 1} → statement M
 put-values-spec =

@@ -9,10 +9,17 @@ dll-requires : tie.Need-dll-requires
 dll-requires c κs = let l = listed _ (c .before .before .before .before .before .pre .1 .0) in (l .shape .headed, dll-inside _ l)
 
 draw-members-requires : tie.Need-draw-members-requires
-draw-members-requires c κs = (all-room _ _ (c .before .before .before .first-machine .ensures .0) (c .before .before .native-machine .ensures .0) (c .dll .ensures) (c .before .before .before .before .before .before .pre .0), ((c .before .before .before .before .before .before .pre .1 .0), (c .before .before .native-machine .ensures .1, dll-small _ (c .before .before .before .before .before .before .pre .1 .0) (c .dll .ensures))))
+draw-members-requires c κs =
+    let c₃ = c .before .before .before in
+    let c₆ = c₃ .before .before .before in
+    (all-room _ _ (c₃ .first-machine .ensures .0) (c .before .before .native-machine .ensures .0) (c .dll .ensures) (c₆ .pre .0), ((c₆ .pre .1 .0), (c .before .before .native-machine .ensures .1, dll-small _ (c₆ .pre .1 .0) (c .dll .ensures))))
 
 returns : tie.Need-returns
-returns c = all-drew _ _ (c .before .before .before .before .before .before .first-machine .ensures .0) (c .before .before .before .before .before .native-machine .ensures .0) (c .before .before .before .dll .ensures) (c .before .before .draw-members .ensures)
+returns c =
+    let c₃ = c .before .before .before in
+    let c₅ = c₃ .before .before in
+    let c₆ = c₅ .before in
+    all-drew _ _ (c₆ .first-machine .ensures .0) (c₅ .native-machine .ensures .0) (c₃ .dll .ensures) (c .before .before .draw-members .ensures)
 
 pub draw-all-spec : {M : Type 1} → statement M
 draw-all-spec =

@@ -1,8 +1,7 @@
 -- `library::set::draw_members` meets its contract.
 use Prim.Native.Nat.{ℕ, _+_}
-use mathlib.Core.Path.{refl, sym, ap, _∙_}
+use mathlib.Core.Path.{ap}
 use native.Mathlib.Omega.{arith}
-use lib.ListN.{length}
 use Rattle.laws.proofs.Totals.{stem-short}
 use Rattle.format.proofs.Listed.{listed}
 use Rattle.names.proofs.DllNames.{stem-part}
@@ -21,19 +20,47 @@ u32-at-requires-2 : tie.Need-u32-at-requires-2
 u32-at-requires-2 c κs = omega (arith, listed _ (c .before .before .before .before .before .before .pre .1 .0) .shape .headed)
 
 add-both : tie.Need-add-both
-add-both c = let (f, n, _) = counts-small _ (c .before .before .before .before .before .before .before .pre .1 .0) (c .before .u32-at .ensures) (c .u32-at2 .ensures) in omega arith
+add-both c =
+    let c₇ = c .before .before .before .before .before .before .before in
+    let (f, n, _) = counts-small _ (c₇ .pre .1 .0) (c .before .u32-at .ensures) (c .u32-at2 .ensures) in omega arith
 
 draw-fixed-requires : tie.Need-draw-fixed-requires
-draw-fixed-requires c κs = (set-fixed _ _ _ _ _ _ (c .before .before .before .before .before .before .before .before .pre .0), (c .before .before .before .before .before .before .before .before .pre .1 .1 .0, (c .before .before .before .before .before .before .before .before .pre .1 .1 .1, stem-part (c .before .before .before .part .ensures) (c .before .before .before .before .stem .ensures))))
+draw-fixed-requires c κs =
+    let c₃ = c .before .before .before in
+    let c₄ = c₃ .before in
+    let c₈ = c₄ .before .before .before .before in
+    (set-fixed _ _ _ _ _ _ (c₈ .pre .0), (c₈ .pre .1 .1 .0, (c₈ .pre .1 .1 .1, stem-part (c₃ .part .ensures) (c₄ .stem .ensures))))
 
 draw-list-requires : tie.Need-draw-list-requires
-draw-list-requires c κs = let (f, n, s) = counts-small _ (c .before .before .before .before .before .before .before .before .before .before .before .before .pre .1 .0) (c .before .before .before .before .before .before .u32-at .ensures) (c .before .before .before .before .before .u32-at2 .ensures) in (set-first _ _ _ _ _ _ (c .before .before .before .before .before .before .before .before .before .before .before .before .pre .0) (c .before .before .before .draw-fixed .ensures) (c .before .before .before .before .before .before .u32-at .ensures), ((c .before .before .before .before .before .before .before .before .before .before .before .before .pre .1 .0), ((omega arith, omega arith), c .before .before .before .before .before .before .before .before .before .before .before .before .pre .1 .1 .1)))
+draw-list-requires c κs =
+    let c₃ = c .before .before .before in
+    let c₅ = c₃ .before .before in
+    let c₆ = c₅ .before in
+    let c₁₂ = c₆ .before .before .before .before .before .before in
+    let (f, n, s) = counts-small _ (c₁₂ .pre .1 .0) (c₆ .u32-at .ensures) (c₅ .u32-at2 .ensures) in
+    (set-first _ _ _ _ _ _ (c₁₂ .pre .0) (c₃ .draw-fixed .ensures) (c₆ .u32-at .ensures), ((c₁₂ .pre .1 .0), ((omega arith, omega arith), c₁₂ .pre .1 .1 .1)))
 
 draw-list-requires-2 : tie.Need-draw-list-requires-2
-draw-list-requires-2 c κs = let (f, n, s) = counts-small _ (c .before .before .before .before .before .before .before .before .before .before .before .before .before .before .before .before .pre .1 .0) (c .before .before .before .before .before .before .before .before .before .before .u32-at .ensures) (c .before .before .before .before .before .before .before .before .before .u32-at2 .ensures) in (set-native _ _ _ _ _ _ (c .before .before .before .before .before .before .before .before .before .before .before .before .before .before .before .before .pre .0) (c .before .before .before .before .before .before .before .draw-fixed .ensures) (c .before .before .before .before .before .before .before .before .before .before .u32-at .ensures) (c .before .before .before .draw-list .ensures) (ap (λ (n : ℕ). c .before .before .before .before .before .before .before .before .before .before .u32-at .result + n) (c .before .before .before .before .before .before .before .before .before .u32-at2 .ensures)), ((c .before .before .before .before .before .before .before .before .before .before .before .before .before .before .before .before .pre .1 .0), ((omega arith, omega arith), c .before .before .before .before .before .before .before .before .before .before .before .before .before .before .before .before .pre .1 .1 .1)))
+draw-list-requires-2 c κs =
+    let c₃ = c .before .before .before in
+    let c₇ = c₃ .before .before .before .before in
+    let c₉ = c₇ .before .before in
+    let c₁₀ = c₉ .before in
+    let c₁₆ = c₁₀ .before .before .before .before .before .before in
+    let (f, n, s) = counts-small _ (c₁₆ .pre .1 .0) (c₁₀ .u32-at .ensures) (c₉ .u32-at2 .ensures) in
+    (set-native _ _ _ _ _ _ (c₁₆ .pre .0) (c₇ .draw-fixed .ensures) (c₁₀ .u32-at .ensures) (c₃ .draw-list .ensures) (ap (λ (n : ℕ). c₁₀ .u32-at .result + n) (c₉ .u32-at2 .ensures)), ((c₁₆ .pre .1 .0), ((omega arith, omega arith), c₁₆ .pre .1 .1 .1)))
 
 returns : tie.Need-returns
-returns c = counted-by (c .before .before .before .entry-of .ensures) (c .before .before .entry-of2 .ensures) (c .before .entry-of3 .ensures) (c .entry-of4 .ensures) (set-drew _ _ _ _ _ _ (c .before .before .before .before .before .before .before .before .before .before .before .before .before .before .before .before .before .before .before .before .before .before .before .pre .0) (c .before .before .before .before .before .before .before .before .before .before .before .before .before .before .draw-fixed .ensures) (c .before .before .before .before .before .before .before .before .before .before .before .before .before .before .before .before .before .u32-at .ensures) (c .before .before .before .before .before .before .before .before .before .before .draw-list .ensures) (ap (λ (n : ℕ). c .before .before .before .before .before .before .before .before .before .before .before .before .before .before .before .before .before .u32-at .result + n) (c .before .before .before .before .before .before .before .before .before .before .before .before .before .before .before .before .u32-at2 .ensures)) (c .before .before .before .before .before .before .draw-list2 .ensures))
+returns c =
+    let c₃ = c .before .before .before in
+    let c₆ = c₃ .before .before .before in
+    let c₁₀ = c₆ .before .before .before .before in
+    let c₁₄ = c₁₀ .before .before .before .before in
+    let c₁₆ = c₁₄ .before .before in
+    let c₁₇ = c₁₆ .before in
+    let c₂₃ = c₁₇ .before .before .before .before .before .before in
+    counted-by (c₃ .entry-of .ensures) (c .before .before .entry-of2 .ensures) (c .before .entry-of3 .ensures) (c .entry-of4 .ensures)
+    (set-drew _ _ _ _ _ _ (c₂₃ .pre .0) (c₁₄ .draw-fixed .ensures) (c₁₇ .u32-at .ensures) (c₁₀ .draw-list .ensures) (ap (λ (n : ℕ). c₁₇ .u32-at .result + n) (c₁₆ .u32-at2 .ensures)) (c₆ .draw-list2 .ensures))
 
 pub draw-members-spec : {M : Type 1} → statement M
 draw-members-spec =

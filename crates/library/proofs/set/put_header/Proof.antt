@@ -5,7 +5,11 @@ use Rattle.library.proofs.set.put_header.Statement.{statement}
 use Rattle.library.proofs.set.put_header.Tie as tie
 
 returns : tie.Need-returns
-returns c = ((c .before .before .before .before .before .before .before .before .before .before .before .before .before .before .put-u32 .ensures ⨾ c .before .before .before .before .before .before .before .before .before .before .put-u322 .ensures) ⨾ c .before .before .before .before .before .before .put-u323 .ensures) ⨾ c .before .before .put-u324 .ensures
+returns c =
+    let c₆ = c .before .before .before .before .before .before in
+    let c₁₀ = c₆ .before .before .before .before in
+    let c₁₄ = c₁₀ .before .before .before .before in
+    ((c₁₄ .put-u32 .ensures ⨾ c₁₀ .put-u322 .ensures) ⨾ c₆ .put-u323 .ensures) ⨾ c .before .before .put-u324 .ensures
 
 pub put-header-spec : {M : Type 1} → statement M
 put-header-spec =

@@ -1,6 +1,5 @@
 -- `lists::record::absent` meets its contract.
-use Prim.Native.Nat.{ℕ, _+_, _*_}
-use mathlib.Core.Path.{_≡_, sym, ap, _∙_}
+use mathlib.Core.Path.{_≡_}
 use Rattle.lists.proofs.Records.{absent-not, absent-by}
 use borrow.Author.Needs.{needs}
 use Rattle.lists.proofs.record.absent.Statement.{statement}

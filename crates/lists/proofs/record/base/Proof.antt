@@ -1,5 +1,5 @@
 -- `lists::record::base` meets its contract.
-use mathlib.Core.Path.{_≡_, sym, ap, _∙_}
+use mathlib.Core.Path.{sym, _∙_}
 use Rattle.lists.proofs.Records.{base-name, base-symbol}
 use borrow.Author.Needs.{needs}
 use Rattle.lists.proofs.record.base.Statement.{statement}

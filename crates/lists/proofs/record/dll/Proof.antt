@@ -1,6 +1,6 @@
 -- `lists::record::dll` meets its contract.
 use Prim.Native.Nat.{_+_}
-use mathlib.Core.Path.{_≡_, sym, ap, ap₂, _∙_}
+use mathlib.Core.Path.{ap₂, _∙_}
 use Rattle.lists.proofs.Records.{string-at}
 use borrow.Author.Needs.{needs}
 use Rattle.lists.proofs.record.dll.Statement.{statement}
@@ -38,7 +38,9 @@ part-requires : tie.Need-part-requires
 part-requires c κs = search needs
 
 returns : tie.Need-returns
-returns c = c .part .ensures ∙ string-at _ _ _ _ (ap₂ _+_ (c .before .before .before .u32-at .ensures) (c .before .before .u32-at2 .ensures)) (c .before .u32-at3 .ensures)
+returns c =
+    let c₃ = c .before .before .before in
+    c .part .ensures ∙ string-at _ _ _ _ (ap₂ _+_ (c₃ .u32-at .ensures) (c .before .before .u32-at2 .ensures)) (c .before .u32-at3 .ensures)
 
 pub dll-spec : {M : Type 1} → statement M
 dll-spec =

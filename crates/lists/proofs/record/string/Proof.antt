@@ -1,6 +1,6 @@
 -- `lists::record::string` meets its contract.
 use Prim.Native.Nat.{_+_}
-use mathlib.Core.Path.{_≡_, sym, ap, ap₂, _∙_}
+use mathlib.Core.Path.{ap₂, _∙_}
 use native.Mathlib.Omega.{arith}
 use Rattle.lists.proofs.Records.{string-at}
 use borrow.Author.Needs.{needs}
@@ -51,8 +51,11 @@ part-requires c κs = let d = c .before .before .before .before .before in
     omega (arith, d .pre .0 .strings (d .args .f) (d .pre .1), rw at at (c .before .u32-at2 .ensures), rw at at (c .u32-at3 .ensures))
 
 returns : tie.Need-returns
-returns c = let at = c .before .before .before .before .record-at .ensures in
-    c .part .ensures ∙ string-at _ _ _ _ (ap₂ _+_ (c .before .before .before .u32-at .ensures) (rw at at (c .before .before .u32-at2 .ensures))) (rw at at (c .before .u32-at3 .ensures))
+returns c =
+    let c₃ = c .before .before .before in
+    let c₄ = c₃ .before in
+    let at = c₄ .record-at .ensures in c .part .ensures ∙ string-at _ _ _ _
+    (ap₂ _+_ (c₃ .u32-at .ensures) (rw at at (c .before .before .u32-at2 .ensures))) (rw at at (c .before .u32-at3 .ensures))
 
 pub string-spec : {M : Type 1} → statement M
 string-spec =

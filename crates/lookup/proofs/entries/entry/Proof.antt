@@ -16,13 +16,17 @@ returns-2 c = entry-exported _ _ _ _ _ _ (c .before .before .if1 .left) (c .befo
 
 add-t13 : tie.Need-add-t13
 add-t13 c =
-    let s = c .before .before .before .before .before .before .before in
-    let p = s .pre in
-    let a = s .args in
-    omega (arith, p .0 .0 .inside, p .1, c .before .before .applied .ensures .within, ap length (c .before .before .before .part .ensures), length-part (a .member .now) (a .symbol .start) (a .symbol .length) (p .0 .0 .inside))
+    let c₃ = c .before .before .before in
+    let c₆ = c₃ .before .before .before in
+    let s = c₆ .before in let p = s .pre in let a = s .args in omega
+    (arith, p .0 .0 .inside, p .1, c .before .before .applied .ensures .within, ap length (c₃ .part .ensures), length-part (a .member .now) (a .symbol .start) (a .symbol .length) (p .0 .0 .inside))
 
 returns-3 : tie.Need-returns-3
-returns-3 c = entry-named _ _ _ _ _ _ (c .before .before .before .before .before .if1 .left) (c .before .before .before .before .if2 .left) (c .before .before .before .part .ensures) (c .before .before .applied .ensures)
+returns-3 c =
+    let c₃ = c .before .before .before in
+    let c₄ = c₃ .before in
+    let c₅ = c₄ .before in
+    entry-named _ _ _ _ _ _ (c₅ .if1 .left) (c₄ .if2 .left) (c₃ .part .ensures) (c .before .before .applied .ensures)
 
 pub entry-spec : {M : Type 1} → statement M
 entry-spec =

@@ -38,8 +38,10 @@ loop-less c = omega (arith, c .before .before .before .loop-test .taken)
 
 loop-again : tie.Need-loop-again Inv-loop μ-loop
 loop-again c =
-    let l = c .before .before .before .before .loop in
-    (omega (arith, c .before .before .before .loop-test .taken), l .inv .1 ∙ back-next _ _ (l .i) (l .end) (c .before .before .before .loop-test .taken) (c .before .if1 .left) (c .before .before .offset-at .ensures .0) (c .length-at .ensures .0))
+    let c₃ = c .before .before .before in
+    let c₄ = c₃ .before in
+    let l = c₄ .loop in
+    (omega (arith, c₃ .loop-test .taken), l .inv .1 ∙ back-next _ _ (l .i) (l .end) (c₃ .loop-test .taken) (c .before .if1 .left) (c .before .before .offset-at .ensures .0) (c .length-at .ensures .0))
 
 returns-2 : tie.Need-returns-2 Inv-loop μ-loop
 returns-2 c =

@@ -35,19 +35,22 @@ next-rank-requires : tie.Need-next-rank-requires Inv-loop μ-loop
 next-rank-requires c κs = c .before .before .before .before .before .loop .inv .1
 
 add-i : tie.Need-add-i Inv-loop μ-loop
-add-i c = omega (arith, c .before .before .before .before .before .loop-test .taken, c .before .before .before .before .before .before .before .count .ensures .1)
+add-i c =
+    let c₅ = c .before .before .before .before .before in
+    let c₇ = c₅ .before .before in
+    omega (arith, c₅ .loop-test .taken, c₇ .count .ensures .1)
 
 loop-less : tie.Need-loop-less Inv-loop μ-loop
 loop-less c = omega (arith, c .before .before .before .before .before .loop-test .taken)
 
 loop-again : tie.Need-loop-again Inv-loop μ-loop
 loop-again c =
-    let l = c .before .before .before .before .before .before .loop in
-    let r = rank-at _ _ (c .before .before .rank .ensures) (c .before .before .before .read .ensures) (c .before .before .before .before .member-at .ensures .0) in (
-      omega (arith, c .before .before .before .before .before .loop-test .taken),
-      c .next-rank .ensures .1,
-      l .inv .2 ∙ ranked-next _ _ (l .expected) (l .i) (c .before .before .before .before .before .loop-test .taken) (sym r ∙ c .before .if1 .left) (c .next-rank .ensures .0),
-    )
+    let c₃ = c .before .before .before in
+    let c₄ = c₃ .before in
+    let c₅ = c₄ .before in
+    let c₆ = c₅ .before in
+    let l = c₆ .loop in let r = rank-at _ _ (c .before .before .rank .ensures) (c₃ .read .ensures) (c₄ .member-at .ensures .0) in
+    (omega (arith, c₅ .loop-test .taken), c .next-rank .ensures .1, l .inv .2 ∙ ranked-next _ _ (l .expected) (l .i) (c₅ .loop-test .taken) (sym r ∙ c .before .if1 .left) (c .next-rank .ensures .0))
 
 returns-2 : tie.Need-returns-2 Inv-loop μ-loop
 returns-2 c =

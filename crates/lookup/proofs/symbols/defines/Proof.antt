@@ -21,10 +21,16 @@ returns-3 : tie.Need-returns-3
 returns-3 c = mute-defines _ _ (said-as _ _ (c .before .before .read .ensures) (c .enum-told3 .given .1))
 
 returns-4 : tie.Need-returns-4
-returns-4 c = short-defines _ (said-as _ _ (c .before .before .before .before .before .read .ensures) (c .before .before .before .machine .given .1)) (c .before .part .ensures) (c .defines-short .ensures)
+returns-4 c =
+    let c₃ = c .before .before .before in
+    let c₅ = c₃ .before .before in
+    short-defines _ (said-as _ _ (c₅ .read .ensures) (c₃ .machine .given .1)) (c .before .part .ensures) (c .defines-short .ensures)
 
 returns-5 : tie.Need-returns-5
-returns-5 c = weak-defines _ (said-as _ _ (c .before .before .before .before .before .read .ensures) (c .before .before .before .alias .given .1)) (c .before .part2 .ensures) (c .same .ensures)
+returns-5 c =
+    let c₃ = c .before .before .before in
+    let c₅ = c₃ .before .before in
+    weak-defines _ (said-as _ _ (c₅ .read .ensures) (c₃ .alias .given .1)) (c .before .part2 .ensures) (c .same .ensures)
 
 returns-6 : tie.Need-returns-6
 returns-6 c = mute-defines _ _ (said-as _ _ (c .before .before .read .ensures) (c .enum-told4 .given .1))

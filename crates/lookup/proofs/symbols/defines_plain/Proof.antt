@@ -12,7 +12,10 @@ returns-2 : tie.Need-returns-2
 returns-2 c = plain-data _ _ _ (sym (c .before .before .is-name .ensures) ∙ c .before .if1 .left) (c .if2 .taken)
 
 returns-3 : tie.Need-returns-3
-returns-3 c = plain-by _ _ _ (sym (c .before .before .before .before .is-name .ensures) ∙ c .before .before .before .if1 .left) (c .before .before .if2 .left) (c .is-name2 .ensures)
+returns-3 c =
+    let c₃ = c .before .before .before in
+    let c₄ = c₃ .before in
+    plain-by _ _ _ (sym (c₄ .is-name .ensures) ∙ c₃ .if1 .left) (c .before .before .if2 .left) (c .is-name2 .ensures)
 
 pub defines-plain-spec : {M : Type 1} → statement M
 defines-plain-spec =

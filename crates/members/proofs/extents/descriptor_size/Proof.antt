@@ -15,7 +15,9 @@ add-result-3 c =
     omega (arith, stem-within _ (p .1) (p .0), p .0, c .null-name-len .ensures .1)
 
 returns : tie.Need-returns
-returns c = λ m. descriptor-extent m _ _ _ (c .before .before .before .args .compat) (c .before .before .before .pre .1) (c .null-name-len .ensures .0)
+returns c =
+    let c₃ = c .before .before .before in
+    λ m. descriptor-extent m _ _ _ (c₃ .args .compat) (c₃ .pre .1) (c .null-name-len .ensures .0)
 
 pub descriptor-size-spec : {M : Type 1} → statement M
 descriptor-size-spec =

@@ -5,10 +5,14 @@ use Rattle.members.proofs.extents.short_size.Statement.{statement}
 use Rattle.members.proofs.extents.short_size.Tie as tie
 
 returns : tie.Need-returns
-returns c = λ m o k. short-exported m o k _ _ _ _ (c .before .before .before .before .before .before .args .head .now) (c .before .before .before .before .before .before .args .tail .now) (c .before .number .ensures) (c .if1 .taken)
+returns c =
+    let c₆ = c .before .before .before .before .before .before in
+    λ m o k. short-exported m o k _ _ _ _ (c₆ .args .head .now) (c₆ .args .tail .now) (c .before .number .ensures) (c .if1 .taken)
 
 returns-2 : tie.Need-returns-2
-returns-2 c = λ m o k. short-plain m o k _ _ _ _ (c .before .before .before .before .before .before .args .head .now) (c .before .before .before .before .before .before .args .tail .now) (c .before .number .ensures) (c .if1 .left)
+returns-2 c =
+    let c₆ = c .before .before .before .before .before .before in
+    λ m o k. short-plain m o k _ _ _ _ (c₆ .args .head .now) (c₆ .args .tail .now) (c .before .number .ensures) (c .if1 .left)
 
 pub short-size-spec : {M : Type 1} → statement M
 short-size-spec =

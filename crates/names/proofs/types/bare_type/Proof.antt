@@ -7,10 +7,16 @@ use Rattle.names.proofs.types.bare_type.Statement.{statement}
 use Rattle.names.proofs.types.bare_type.Tie as tie
 
 returns : tie.Need-returns
-returns c = bare-by (c .before .before .before .before .args .machine) (c .before .before .before .before .args .base .now) (eq-eqb _ _ (c .before .before .if1 .taken)) (sym (c .before .starts-with .ensures) ∙ c .if2 .taken)
+returns c =
+    let c₄ = c .before .before .before .before in
+    bare-by (c₄ .args .machine) (c₄ .args .base .now) (eq-eqb _ _ (c .before .before .if1 .taken))
+    (sym (c .before .starts-with .ensures) ∙ c .if2 .taken)
 
 returns-2 : tie.Need-returns-2
-returns-2 c = bare-by (c .before .before .before .before .args .machine) (c .before .before .before .before .args .base .now) (eq-eqb _ _ (c .before .before .if1 .taken)) (sym (c .before .starts-with .ensures) ∙ c .if2 .left)
+returns-2 c =
+    let c₄ = c .before .before .before .before in
+    bare-by (c₄ .args .machine) (c₄ .args .base .now) (eq-eqb _ _ (c .before .before .if1 .taken))
+    (sym (c .before .starts-with .ensures) ∙ c .if2 .left)
 
 returns-3 : tie.Need-returns-3
 returns-3 c = bare-by (c .before .before .args .machine) (c .before .before .args .base .now) (ne-eqb _ _ (c .if1 .left)) refl

@@ -1,5 +1,5 @@
 -- `names::types::get_name_type` meets its contract.
-use mathlib.Core.Path.{refl, sym, _∙_}
+use mathlib.Core.Path.{sym, _∙_}
 use Rattle.wire.proofs.Bytes.{not-true, not-false}
 use Rattle.names.proofs.NameTypes.{plain-decorated, plain-other, plain-bare}
 use borrow.Author.Needs.{needs}
@@ -10,10 +10,16 @@ returns : tie.Need-returns
 returns c = plain-decorated _ _ _ _ (sym (c .before .decorated .ensures) ∙ c .if1 .taken)
 
 returns-2 : tie.Need-returns-2
-returns-2 c = plain-other _ _ _ _ (sym (c .before .before .before .decorated .ensures) ∙ c .before .before .if1 .left) (sym (c .before .same .ensures) ∙ not-true _ (c .if2 .taken))
+returns-2 c =
+    let c₃ = c .before .before .before in
+    plain-other _ _ _ _ (sym (c₃ .decorated .ensures) ∙ c .before .before .if1 .left) (sym (c .before .same .ensures) ∙ not-true _ (c .if2 .taken))
 
 returns-3 : tie.Need-returns-3
-returns-3 c = plain-bare _ _ _ _ (sym (c .before .before .before .before .decorated .ensures) ∙ c .before .before .before .if1 .left) (sym (c .before .before .same .ensures) ∙ not-false _ (c .before .if2 .left)) (c .bare-type .ensures)
+returns-3 c =
+    let c₃ = c .before .before .before in
+    let c₄ = c₃ .before in
+    plain-bare _ _ _ _ (sym (c₄ .decorated .ensures) ∙ c₃ .if1 .left) (sym (c .before .before .same .ensures) ∙ not-false _ (c .before .if2 .left))
+    (c .bare-type .ensures)
 
 pub get-name-type-spec : {M : Type 1} → statement M
 get-name-type-spec =

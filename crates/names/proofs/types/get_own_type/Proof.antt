@@ -1,5 +1,5 @@
 -- `names::types::get_own_type` meets its contract.
-use mathlib.Core.Path.{refl, sym, _∙_}
+use mathlib.Core.Path.{sym, _∙_}
 use Rattle.wire.proofs.Bytes.{same-refl}
 use Rattle.names.proofs.NameTypes.{plain-decorated, plain-bare}
 use borrow.Author.Needs.{needs}

@@ -12,7 +12,10 @@ returns-2 : tie.Need-returns-2
 returns-2 c = refused
 
 returns-3 : tie.Need-returns-3
-returns-3 c = λ e. told-made _ _ _ (c .before .before .before .if1 .left) (rest-made 1 (c .before .before .before .before .before .before .args .name .now) _ (sym (c .same .ensures) ∙ e))
+returns-3 c =
+    let c₃ = c .before .before .before in
+    let c₆ = c₃ .before .before .before in
+    λ e. told-made _ _ _ (c₃ .if1 .left) (rest-made 1 (c₆ .args .name .now) _ (sym (c .same .ensures) ∙ e))
 
 pub is-dropped-spec : {M : Type 1} → statement M
 is-dropped-spec =

@@ -7,7 +7,9 @@ use Rattle.names_run.proofs.rules.mangle.Statement.{statement}
 use Rattle.names_run.proofs.rules.mangle.Tie as tie
 
 returns : tie.Need-returns
-returns c = λ e. c .is-prefixed .ensures e .0 ∙ ap verdictOf (sym (c .before .enum-told .given .1) ∙ c .before .before .before .get-arm64ec-mangled-function-name .ensures)
+returns c =
+    let c₃ = c .before .before .before in
+    λ e. c .is-prefixed .ensures e .0 ∙ ap verdictOf (sym (c .before .enum-told .given .1) ∙ c₃ .get-arm64ec-mangled-function-name .ensures)
 
 returns-2 : tie.Need-returns-2
 returns-2 c = λ e. eqb-true _ _ e ∙ ap verdictOf (sym (c .enum-told2 .given .1) ∙ c .before .before .get-arm64ec-mangled-function-name .ensures)

@@ -1,6 +1,6 @@
 -- `plans::check::check_names` meets its contract. The loop's invariant: the answer from record k on is the whole answer.
 use borrow.Author.Needs.{needs}
-use Prim.Native.Nat.{_+_, _-_, _≤_}
+use Prim.Native.Nat.{_-_, _≤_}
 use mathlib.Core.Path.{_≡_, refl, sym, _∙_}
 use native.Mathlib.Omega.{arith}
 use Rattle.format.specs.Refusals.{earliest, nameRows, rowsFrom}
@@ -24,8 +24,10 @@ check-name-requires c κs = let d = c .before .before .before in held _ _ (d .pr
 
 returns : tie.Need-returns Inv-loop μ-loop
 returns c =
-    sym (c .before .before .before .before .before .loop .inv .1
-    ∙ rows-stop _ _ _ _ _ (c .before .before .before .before .loop-test .taken) (sym (c .before .before .before .check-name .ensures) ∙ c .before .checked .given .1))
+    let c₃ = c .before .before .before in
+    let c₄ = c₃ .before in
+    let c₅ = c₄ .before in
+    sym (c₅ .loop .inv .1 ∙ rows-stop _ _ _ _ _ (c₄ .loop-test .taken) (sym (c₃ .check-name .ensures) ∙ c .before .checked .given .1))
 
 loop-again : tie.Need-loop-again Inv-loop μ-loop
 loop-again c = (

@@ -1,6 +1,5 @@
 -- `plans::keys::key_is` meets its contract.
-use Prim.Native.Nat.{_≤_}
-use mathlib.Core.Path.{_≡_, refl, sym, ap, ap₂, _∙_}
+use mathlib.Core.Path.{sym, ap, _∙_}
 use mathlib.Core.Option.{some}
 use native.Mathlib.Omega.{arith}
 use lib.ListN.{length}
@@ -35,8 +34,12 @@ key-named-requires : tie.Need-key-named-requires
 key-named-requires c κs = search needs
 
 returns-2 : tie.Need-returns-2
-returns-2 c = c .key-named .ensures
-    ∙ key-by _ _ _ _ _ _ (sym (c .before .before .before .before .before .is-private .ensures) ∙ c .before .before .before .before .if1 .left) (public-base _ _ (sym (c .before .before .before .absent .ensures) ∙ c .before .before .if2 .taken) ∙ ap some (sym (c .before .base .ensures)))
+returns-2 c =
+    let c₃ = c .before .before .before in
+    let c₄ = c₃ .before in
+    let c₅ = c₄ .before in
+    c .key-named .ensures ∙ key-by _ _ _ _ _ _ (sym (c₅ .is-private .ensures) ∙ c₄ .if1 .left)
+    (public-base _ _ (sym (c₃ .absent .ensures) ∙ c .before .before .if2 .taken) ∙ ap some (sym (c .before .base .ensures)))
 
 base-requires-2 : tie.Need-base-requires-2
 base-requires-2 c κs = search needs
@@ -55,9 +58,15 @@ replace-requires c κs = let h = c .before .before .before .before .before .befo
 )
 
 returns-3 : tie.Need-returns-3
-returns-3 c = key-11 _ _ _ _ _ (sym (c .before .before .before .before .before .before .before .before .is-private .ensures) ∙ c .before .before .before .before .before .before .before .if1 .left)
-    (public-renamed _ _ _ _ _ _ (sym (c .before .before .before .before .before .before .absent .ensures) ∙ c .before .before .before .before .before .if2 .left) (c .before .before .before .before .base2 .ensures) (c .before .before .before .string .ensures) (c .before .before .string2 .ensures)
-    (c .before .replace .ensures .fails (not-true _ (c .if3 .taken))))
+returns-3 c =
+    let c₃ = c .before .before .before in
+    let c₄ = c₃ .before in
+    let c₅ = c₄ .before in
+    let c₆ = c₅ .before in
+    let c₇ = c₆ .before in
+    let c₈ = c₇ .before in
+    key-11 _ _ _ _ _ (sym (c₈ .is-private .ensures) ∙ c₇ .if1 .left)
+    (public-renamed _ _ _ _ _ _ (sym (c₆ .absent .ensures) ∙ c₅ .if2 .left) (c₄ .base2 .ensures) (c₃ .string .ensures) (c .before .before .string2 .ensures) (c .before .replace .ensures .fails (not-true _ (c .if3 .taken))))
 
 array-share-prefix-bytes : tie.Need-array-share-prefix-bytes
 array-share-prefix-bytes c = search needs
@@ -69,10 +78,18 @@ key-named-requires-2 : tie.Need-key-named-requires-2
 key-named-requires-2 c κs = search needs
 
 returns-4 : tie.Need-returns-4
-returns-4 c = c .key-named2 .ensures
-    ∙ key-by _ _ _ _ _ _ (sym (c .before .before .before .before .before .before .before .before .before .before .before .before .is-private .ensures) ∙ c .before .before .before .before .before .before .before .before .before .before .before .if1 .left)
-    (public-renamed _ _ _ _ _ _ (sym (c .before .before .before .before .before .before .before .before .before .before .absent .ensures) ∙ c .before .before .before .before .before .before .before .before .before .if2 .left) (c .before .before .before .before .before .before .before .before .base2 .ensures) (c .before .before .before .before .before .before .before .string .ensures) (c .before .before .before .before .before .before .string2 .ensures)
-    (c .before .before .before .before .before .replace .ensures .given (not-false _ (c .before .before .before .before .if3 .left))))
+returns-4 c =
+    let c₄ = c .before .before .before .before in
+    let c₅ = c₄ .before in
+    let c₆ = c₅ .before in
+    let c₇ = c₆ .before in
+    let c₈ = c₇ .before in
+    let c₉ = c₈ .before in
+    let c₁₀ = c₉ .before in
+    let c₁₁ = c₁₀ .before in
+    let c₁₂ = c₁₁ .before in
+    c .key-named2 .ensures ∙ key-by _ _ _ _ _ _ (sym (c₁₂ .is-private .ensures) ∙ c₁₁ .if1 .left)
+    (public-renamed _ _ _ _ _ _ (sym (c₁₀ .absent .ensures) ∙ c₉ .if2 .left) (c₈ .base2 .ensures) (c₇ .string .ensures) (c₆ .string2 .ensures) (c₅ .replace .ensures .given (not-false _ (c₄ .if3 .left))))
 
 pub key-is-spec : {M : Type 1} → statement M
 key-is-spec =

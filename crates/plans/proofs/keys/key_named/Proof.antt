@@ -1,5 +1,5 @@
 -- `plans::keys::key_named` meets its contract.
-use mathlib.Core.Path.{_≡_, refl, sym, ap, ap₂, _∙_}
+use mathlib.Core.Path.{sym, ap, _∙_}
 use Rattle.plans.specs.Shape.{shaped}
 use Rattle.plans.proofs.Answering.{key-short, key-deferred, key-refused}
 use borrow.Author.Needs.{needs}
@@ -26,7 +26,10 @@ enum-told-2 : tie.Need-enum-told-2
 enum-told-2 c = search needs
 
 returns : tie.Need-returns
-returns c = key-short _ _ _ _ _ _ _ _ _ (c .before .before .before .before .before .before .before .before .pre .1) (ap (shaped _ _) (sym (c .before .before .name-type .given .1)) ∙ c .before .before .before .before .plan .ensures) (c .gives .ensures)
+returns c =
+    let c₄ = c .before .before .before .before in
+    let c₈ = c₄ .before .before .before .before in
+    key-short _ _ _ _ _ _ _ _ _ (c₈ .pre .1) (ap (shaped _ _) (sym (c .before .before .name-type .given .1)) ∙ c₄ .plan .ensures) (c .gives .ensures)
 
 returns-2 : tie.Need-returns-2
 returns-2 c = key-deferred _ _ _ _ (ap (shaped _ _) (sym (c .enum-told .given .1)) ∙ c .before .before .plan .ensures)

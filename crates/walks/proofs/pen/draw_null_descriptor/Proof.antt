@@ -11,10 +11,18 @@ returns : tie.Need-returns
 returns c = drew-empty _ (c .before .before .null-descriptor-size .ensures _) (c .before .if1 .taken) (c .moved .ensures .0) (c .moved .ensures .1)
 
 noted-requires : tie.Need-noted-requires
-noted-requires c κs = room-one (c .before .before .before .before .before .before .before .before .before .before .pre .0) (c .before .before .before .before .before .before .before .null-descriptor-size .ensures _)
+noted-requires c κs =
+    let c₇ = c .before .before .before .before .before .before .before in
+    let c₁₀ = c₇ .before .before .before in
+    room-one (c₁₀ .pre .0) (c₇ .null-descriptor-size .ensures _)
 
 returns-2 : tie.Need-returns-2
-returns-2 c = drew-noted _ (c .before .before .before .before .before .before .before .before .before .before .null-descriptor-size .ensures _) (c .before .before .before .before .before .before .before .before .at-of .ensures) (c .before .before .before .before .before .before .create-null-import-descriptor .ensures) (c .before .before .noted .ensures)
+returns-2 c =
+    let c₆ = c .before .before .before .before .before .before in
+    let c₈ = c₆ .before .before in
+    let c₁₀ = c₈ .before .before in
+    drew-noted _ (c₁₀ .null-descriptor-size .ensures _) (c₈ .at-of .ensures) (c₆ .create-null-import-descriptor .ensures)
+    (c .before .before .noted .ensures)
 
 pub draw-null-descriptor-spec : {M : Type 1} → statement M
 draw-null-descriptor-spec =

@@ -5,7 +5,13 @@ use Rattle.walks.proofs.pen.noted.Statement.{statement}
 use Rattle.walks.proofs.pen.noted.Tie as tie
 
 returns : tie.Need-returns
-returns c = noted-by (c .before .before .before .before .before .before .before .before .entry-of .ensures) (c .before .before .before .before .before .before .before .before .before .before .at-of .ensures) (c .before .before .before .before .before .before .before .put-u32 .ensures) (c .before .before .before .put-u322 .ensures) (c .moved .ensures .0) (c .moved .ensures .1)
+returns c =
+    let c₃ = c .before .before .before in
+    let c₇ = c₃ .before .before .before .before in
+    let c₈ = c₇ .before in
+    let c₁₀ = c₈ .before .before in
+    noted-by (c₈ .entry-of .ensures) (c₁₀ .at-of .ensures) (c₇ .put-u32 .ensures) (c₃ .put-u322 .ensures) (c .moved .ensures .0)
+    (c .moved .ensures .1)
 
 pub noted-spec : {M : Type 1} → statement M
 noted-spec =

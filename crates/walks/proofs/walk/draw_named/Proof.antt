@@ -13,31 +13,70 @@ returns : tie.Need-returns
 returns c = drew-as (direct-later _ _ _ _ _ _ (sym (c .before .before .is-direct .ensures) ∙ c .before .if2 .taken) (c .if3 .taken)) (drew-none _ _ _)
 
 draw-import-requires : tie.Need-draw-import-requires
-draw-import-requires c κs = (direct-room _ _ _ _ _ _ (sym (c .before .before .before .before .before .is-direct .ensures) ∙ c .before .before .before .before .if2 .taken) (c .before .before .before .if3 .left) (c .before .before .before .before .before .before .before .before .before .before .before .pre .0), (c .before .before .before .before .before .before .before .before .before .before .before .pre .1 .0, ((omega (arith, c .before .before .before .before .before .before .before .before .before .before .before .pre .1 .1 .1 .1), omega (arith, c .before .before .before .before .before .before .before .before .before .before .before .pre .1 .1 .1 .1)), (omega arith, omega arith))))
+draw-import-requires c κs =
+    let c₃ = c .before .before .before in
+    let c₄ = c₃ .before in
+    let c₅ = c₄ .before in
+    let c₁₁ = c₅ .before .before .before .before .before .before in
+    (direct-room _ _ _ _ _ _ (sym (c₅ .is-direct .ensures) ∙ c₄ .if2 .taken) (c₃ .if3 .left) (c₁₁ .pre .0), (c₁₁ .pre .1 .0, ((omega (arith, c₁₁ .pre .1 .1 .1 .1), omega (arith, c₁₁ .pre .1 .1 .1 .1)), (omega arith, omega arith))))
 
 returns-2 : tie.Need-returns-2
-returns-2 c = direct-drew _ _ _ _ _ _ (sym (c .before .before .before .before .before .before .before .before .is-direct .ensures) ∙ c .before .before .before .before .before .before .before .if2 .taken) (c .before .before .before .before .before .before .if3 .left) (c .before .before .before .before .before .before .before .before .before .if1 .taken) (c .before .before .draw-import .ensures)
+returns-2 c =
+    let c₆ = c .before .before .before .before .before .before in
+    let c₇ = c₆ .before in
+    let c₈ = c₇ .before in
+    let c₉ = c₈ .before in
+    direct-drew _ _ _ _ _ _ (sym (c₈ .is-direct .ensures) ∙ c₇ .if2 .taken) (c₆ .if3 .left) (c₉ .if1 .taken) (c .before .before .draw-import .ensures)
 
 returns-3 : tie.Need-returns-3
-returns-3 c = drew-as (short-later _ _ (c .before .before .before .before .before .before .before .before .before .before .args .later) _ _ _ _ _ (c .before .before .before .before .plan .ensures) _ _ _ (c .before .before .hashed .given .1) (c .if4 .taken)) (drew-none _ _ _)
+returns-3 c =
+    let c₄ = c .before .before .before .before in
+    let c₁₀ = c₄ .before .before .before .before .before .before in
+    drew-as (short-later _ _ (c₁₀ .args .later) _ _ _ _ _ (c₄ .plan .ensures) _ _ _ (c .before .before .hashed .given .1) (c .if4 .taken))
+    (drew-none _ _ _)
 
 draw-final-requires : tie.Need-draw-final-requires
-draw-final-requires c κs = (room-as (sym (short-now _ _ (c .before .before .before .before .before .before .before .before .before .before .before .args .later) _ _ _ _ _ (c .before .before .before .before .before .plan .ensures) _ _ _ (c .before .before .before .hashed .given .1) (c .before .if4 .left))) (c .before .before .before .before .before .before .before .before .before .before .before .pre .0), (c .before .before .before .before .before .before .before .before .before .before .before .pre .1 .0, c .before .before .before .before .before .before .before .before .before .before .before .pre .1 .1 .1 .1))
+draw-final-requires c κs =
+    let c₃ = c .before .before .before in
+    let c₅ = c₃ .before .before in
+    let c₁₁ = c₅ .before .before .before .before .before .before in
+    (room-as (sym (short-now _ _ (c₁₁ .args .later) _ _ _ _ _ (c₅ .plan .ensures) _ _ _ (c₃ .hashed .given .1) (c .before .if4 .left))) (c₁₁ .pre .0), (c₁₁ .pre .1 .0, c₁₁ .pre .1 .1 .1 .1))
 
 returns-4 : tie.Need-returns-4
-returns-4 c = drew-as (deferred-now _ _ (c .before .before .before .before .before .before .before .before .before .args .later) _ _ _ _ _ (c .before .before .before .plan .ensures) (c .before .enum-told .given .1) (not-true _ (c .if5 .taken))) (drew-none _ _ _)
+returns-4 c =
+    let c₃ = c .before .before .before in
+    let c₉ = c₃ .before .before .before .before .before .before in
+    drew-as (deferred-now _ _ (c₉ .args .later) _ _ _ _ _ (c₃ .plan .ensures) (c .before .enum-told .given .1) (not-true _ (c .if5 .taken)))
+    (drew-none _ _ _)
 
 draw-deferred-requires : tie.Need-draw-deferred-requires
-draw-deferred-requires c κs = (room-as (sym (deferred-later _ _ (c .before .before .before .before .before .before .before .before .before .before .args .later) _ _ _ _ _ _ (c .before .before .before .before .plan .ensures) (c .before .before .enum-told .given .1) (not-false _ (c .before .if5 .left)))) (c .before .before .before .before .before .before .before .before .before .before .pre .0), (c .before .before .before .before .before .before .before .before .before .before .pre .1 .0, (c .before .before .before .before .before .before .before .before .before .before .pre .1 .1 .0, (deferred-native _ _ _ _ (ap (shaped _ _) (sym (c .before .before .enum-told .given .1)) ∙ c .before .before .before .before .plan .ensures), c .before .before .before .before .before .before .before .before .before .before .pre .1 .1 .1))))
+draw-deferred-requires c κs =
+    let c₄ = c .before .before .before .before in
+    let c₁₀ = c₄ .before .before .before .before .before .before in
+    (room-as (sym (deferred-later _ _ (c₁₀ .args .later) _ _ _ _ _ _ (c₄ .plan .ensures) (c .before .before .enum-told .given .1) (not-false _ (c .before .if5 .left)))) (c₁₀ .pre .0), (c₁₀ .pre .1 .0, (c₁₀ .pre .1 .1 .0, (deferred-native _ _ _ _ (ap (shaped _ _) (sym (c .before .before .enum-told .given .1)) ∙ c₄ .plan .ensures), c₁₀ .pre .1 .1 .1))))
 
 returns-5 : tie.Need-returns-5
-returns-5 c = drew-as (short-now _ _ (c .before .before .before .before .before .before .before .before .before .before .before .before .before .before .args .later) _ _ _ _ _ (c .before .before .before .before .before .before .before .before .plan .ensures) _ _ _ (c .before .before .before .before .before .before .hashed .given .1) (c .before .before .before .before .if4 .left)) (c .before .before .draw-final .ensures)
+returns-5 c =
+    let c₄ = c .before .before .before .before in
+    let c₆ = c₄ .before .before in
+    let c₈ = c₆ .before .before in
+    let c₁₄ = c₈ .before .before .before .before .before .before in
+    drew-as (short-now _ _ (c₁₄ .args .later) _ _ _ _ _ (c₈ .plan .ensures) _ _ _ (c₆ .hashed .given .1) (c₄ .if4 .left))
+    (c .before .before .draw-final .ensures)
 
 returns-6 : tie.Need-returns-6
-returns-6 c = drew-as (deferred-later _ _ (c .before .before .before .before .before .before .before .before .before .before .before .before .before .args .later) _ _ _ _ _ _ (c .before .before .before .before .before .before .before .plan .ensures) (c .before .before .before .before .before .enum-told .given .1) (not-false _ (c .before .before .before .before .if5 .left))) (c .before .before .draw-deferred .ensures)
+returns-6 c =
+    let c₄ = c .before .before .before .before in
+    let c₅ = c₄ .before in
+    let c₇ = c₅ .before .before in
+    let c₁₃ = c₇ .before .before .before .before .before .before in
+    drew-as (deferred-later _ _ (c₁₃ .args .later) _ _ _ _ _ _ (c₇ .plan .ensures) (c₅ .enum-told .given .1) (not-false _ (c₄ .if5 .left)))
+    (c .before .before .draw-deferred .ensures)
 
 returns-7 : tie.Need-returns-7
-returns-7 c = drew-as (refused-either _ _ (c .before .before .before .before .before .before .before .before .args .later) _ _ _ _ _ (c .before .before .plan .ensures) _ (c .enum-told2 .given .1)) (drew-none _ _ _)
+returns-7 c =
+    let c₈ = c .before .before .before .before .before .before .before .before in
+    drew-as (refused-either _ _ (c₈ .args .later) _ _ _ _ _ (c .before .before .plan .ensures) _ (c .enum-told2 .given .1)) (drew-none _ _ _)
 
 pub draw-named-spec : {M : Type 1} → statement M
 draw-named-spec =

@@ -23,13 +23,19 @@ loop-holds : tie.Need-loop-holds Inv-loop μ-loop
 loop-holds c = (omega arith, c .before .before .before .pre .1 .1 .0 .0, drew-as (in-none _ _ _) (drew-none _ _ _))
 
 draw-record-requires : tie.Need-draw-record-requires Inv-loop μ-loop
-draw-record-requires c κs = (pass-room _ _ (c .before .before .before .before .before .before .pre .0) (c .before .before .loop .inv .0) (c .before .loop-test .taken) (c .before .before .loop .inv .2), (held _ _ (c .before .before .before .before .before .before .pre .1 .0) (omega (arith, c .before .loop-test .taken, c .before .before .before .before .before .before .pre .1 .1 .0 .1)), (c .before .before .before .before .before .before .pre .1 .0, ((c .before .before .loop .inv .0, c .before .loop-test .taken, c .before .before .before .before .before .before .pre .1 .1 .0 .1), c .before .before .before .before .before .before .pre .1 .1 .1))))
+draw-record-requires c κs =
+    let c₆ = c .before .before .before .before .before .before in
+    (pass-room _ _ (c₆ .pre .0) (c .before .before .loop .inv .0) (c .before .loop-test .taken) (c .before .before .loop .inv .2), (held _ _ (c₆ .pre .1 .0) (omega (arith, c .before .loop-test .taken, c₆ .pre .1 .1 .0 .1)), (c₆ .pre .1 .0, ((c .before .before .loop .inv .0, c .before .loop-test .taken, c₆ .pre .1 .1 .0 .1), c₆ .pre .1 .1 .1))))
 
 loop-less : tie.Need-loop-less Inv-loop μ-loop
 loop-less c = omega (arith, c .before .before .before .before .loop-test .taken)
 
 loop-again : tie.Need-loop-again Inv-loop μ-loop
-loop-again c = (omega (arith, c .before .before .before .before .before .loop .inv .0), omega (arith, c .before .before .before .before .loop-test .taken), pass-drew _ _ (c .before .before .before .before .before .before .before .before .before .pre .0) (c .before .before .before .before .before .loop .inv .0) (c .before .before .before .before .loop-test .taken) (c .before .before .before .before .before .loop .inv .2) (c .before .before .draw-record .ensures))
+loop-again c =
+    let c₄ = c .before .before .before .before in
+    let c₅ = c₄ .before in
+    let c₉ = c₅ .before .before .before .before in
+    (omega (arith, c₅ .loop .inv .0), omega (arith, c₄ .loop-test .taken), pass-drew _ _ (c₉ .pre .0) (c₅ .loop .inv .0) (c₄ .loop-test .taken) (c₅ .loop .inv .2) (c .before .before .draw-record .ensures))
 
 same-length : tie.Need-same-length Inv-loop μ-loop
 same-length c = drew-length (c .before .loop .inv .2)

@@ -1,5 +1,5 @@
 -- `walks::walk::draw_record` meets its contract.
-use mathlib.Core.Path.{refl, sym, ap, _∙_}
+use mathlib.Core.Path.{sym, ap, _∙_}
 use Rattle.walks.proofs.Pens.{room-as, drew-as, drew-none}
 use native.Mathlib.Omega.{arith}
 use lib.ListN.{length}
@@ -18,22 +18,72 @@ returns-2 : tie.Need-returns-2
 returns-2 c = drew-as (at-private _ _ _ (sym (c .before .is-private .ensures) ∙ c .if3 .taken)) (drew-none _ _ _)
 
 draw-named-requires : tie.Need-draw-named-requires
-draw-named-requires c κs = (room-as (sym (record-by (c .before .before .before .before .before .before .before .before .before .before .args .later) _ _ _ _ _ _ (sym (c .before .before .before .before .before .is-private .ensures) ∙ c .before .before .before .before .if3 .left) _ (public-base _ _ (sym (c .before .before .before .absent2 .ensures) ∙ c .before .before .if4 .taken) ∙ ap some (sym (c .base .ensures))))) (c .before .before .before .before .before .before .before .before .before .before .pre .0), (c .before .before .before .before .before .before .before .before .before .before .pre .1 .0, (c .before .before .before .before .before .before .before .before .before .before .pre .1 .1 .0, (c .before .before .before .before .before .before .before .before .before .before .pre .1 .1 .1 .0, (c .before .before .before .before .before .before .before .before .before .before .pre .1 .1 .1 .1, omega (arith, ap length (c .base .ensures), base-length _ _ (c .before .before .before .before .before .before .before .before .before .before .pre .1 .0)))))))
+draw-named-requires c κs =
+    let c₃ = c .before .before .before in
+    let c₄ = c₃ .before in
+    let c₅ = c₄ .before in
+    let c₁₀ = c₅ .before .before .before .before .before in
+    (room-as (sym (record-by (c₁₀ .args .later) _ _ _ _ _ _ (sym (c₅ .is-private .ensures) ∙ c₄ .if3 .left) _ (public-base _ _ (sym (c₃ .absent2 .ensures) ∙ c .before .before .if4 .taken) ∙ ap some (sym (c .base .ensures))))) (c₁₀ .pre .0), (c₁₀ .pre .1 .0, (c₁₀ .pre .1 .1 .0, (c₁₀ .pre .1 .1 .1 .0, (c₁₀ .pre .1 .1 .1 .1, omega (arith, ap length (c .base .ensures), base-length _ _ (c₁₀ .pre .1 .0)))))))
 
 returns-3 : tie.Need-returns-3
-returns-3 c = drew-as (record-by (c .before .before .before .before .before .before .before .before .before .before .before .before .before .args .later) _ _ _ _ _ _ (sym (c .before .before .before .before .before .before .before .before .is-private .ensures) ∙ c .before .before .before .before .before .before .before .if3 .left) _ (public-base _ _ (sym (c .before .before .before .before .before .before .absent2 .ensures) ∙ c .before .before .before .before .before .if4 .taken) ∙ ap some (sym (c .before .before .before .base .ensures)))) (c .before .before .draw-named .ensures)
+returns-3 c =
+    let c₃ = c .before .before .before in
+    let c₅ = c₃ .before .before in
+    let c₆ = c₅ .before in
+    let c₇ = c₆ .before in
+    let c₈ = c₇ .before in
+    let c₁₃ = c₈ .before .before .before .before .before in
+    drew-as
+    (record-by (c₁₃ .args .later) _ _ _ _ _ _ (sym (c₈ .is-private .ensures) ∙ c₇ .if3 .left) _ (public-base _ _ (sym (c₆ .absent2 .ensures) ∙ c₅ .if4 .taken) ∙ ap some (sym (c₃ .base .ensures))))
+    (c .before .before .draw-named .ensures)
 
 replace-requires : tie.Need-replace-requires
-replace-requires c κs = (omega (arith, ap length (c .before .before .base2 .ensures), base-length _ _ (c .before .before .before .before .before .before .before .before .before .before .before .pre .1 .0)), omega (arith, ap length (c .before .string .ensures), string-length _ _ 0 (c .before .before .before .before .before .before .before .before .before .before .before .pre .1 .0) (omega arith), (c .before .before .before .before .before .before .before .before .before .before .before .pre .1 .0) .named), omega (arith, ap length (c .string2 .ensures), string-length _ _ 1 (c .before .before .before .before .before .before .before .before .before .before .before .pre .1 .0) (omega arith), (c .before .before .before .before .before .before .before .before .before .before .before .pre .1 .0) .few 1 (omega arith)))
+replace-requires c κs =
+    let c₁₁ = c .before .before .before .before .before .before .before .before .before .before .before in
+    (omega (arith, ap length (c .before .before .base2 .ensures), base-length _ _ (c₁₁ .pre .1 .0)), omega (arith, ap length (c .before .string .ensures), string-length _ _ 0 (c₁₁ .pre .1 .0) (omega arith), (c₁₁ .pre .1 .0) .named), omega (arith, ap length (c .string2 .ensures), string-length _ _ 1 (c₁₁ .pre .1 .0) (omega arith), (c₁₁ .pre .1 .0) .few 1 (omega arith)))
 
 returns-4 : tie.Need-returns-4
-returns-4 c = drew-as (record-11 (c .before .before .before .before .before .before .before .before .before .before .before .before .before .args .later) _ _ _ _ _ _ (sym (c .before .before .before .before .before .before .before .before .is-private .ensures) ∙ c .before .before .before .before .before .before .before .if3 .left) (public-renamed _ _ _ _ _ _ (sym (c .before .before .before .before .before .before .absent2 .ensures) ∙ c .before .before .before .before .before .if4 .left) (c .before .before .before .before .base2 .ensures) (c .before .before .before .string .ensures) (c .before .before .string2 .ensures) (c .before .replace .ensures .fails (not-true _ (c .if5 .taken))))) (drew-none _ _ _)
+returns-4 c =
+    let c₃ = c .before .before .before in
+    let c₄ = c₃ .before in
+    let c₅ = c₄ .before in
+    let c₆ = c₅ .before in
+    let c₇ = c₆ .before in
+    let c₈ = c₇ .before in
+    let c₁₃ = c₈ .before .before .before .before .before in
+    drew-as
+    (record-11 (c₁₃ .args .later) _ _ _ _ _ _ (sym (c₈ .is-private .ensures) ∙ c₇ .if3 .left) (public-renamed _ _ _ _ _ _ (sym (c₆ .absent2 .ensures) ∙ c₅ .if4 .left) (c₄ .base2 .ensures) (c₃ .string .ensures) (c .before .before .string2 .ensures) (c .before .replace .ensures .fails (not-true _ (c .if5 .taken)))))
+    (drew-none _ _ _)
 
 draw-named-requires-2 : tie.Need-draw-named-requires-2
-draw-named-requires-2 c κs = (room-as (sym (record-by (c .before .before .before .before .before .before .before .before .before .before .before .before .before .before .before .before .before .args .later) _ _ _ _ _ _ (sym (c .before .before .before .before .before .before .before .before .before .before .before .before .is-private .ensures) ∙ c .before .before .before .before .before .before .before .before .before .before .before .if3 .left) _ (public-renamed _ _ _ _ _ _ (sym (c .before .before .before .before .before .before .before .before .before .before .absent2 .ensures) ∙ c .before .before .before .before .before .before .before .before .before .if4 .left) (c .before .before .before .before .before .before .before .before .base2 .ensures) (c .before .before .before .before .before .before .before .string .ensures) (c .before .before .before .before .before .before .string2 .ensures) (c .before .before .before .before .before .replace .ensures .given (not-false _ (c .before .before .before .before .if5 .left)))))) (c .before .before .before .before .before .before .before .before .before .before .before .before .before .before .before .before .before .pre .0), (c .before .before .before .before .before .before .before .before .before .before .before .before .before .before .before .before .before .pre .1 .0, (c .before .before .before .before .before .before .before .before .before .before .before .before .before .before .before .before .before .pre .1 .1 .0, (c .before .before .before .before .before .before .before .before .before .before .before .before .before .before .before .before .before .pre .1 .1 .1 .0, (c .before .before .before .before .before .before .before .before .before .before .before .before .before .before .before .before .before .pre .1 .1 .1 .1, omega (arith, c .before .before .before .before .before .replace .ensures .used, c .before .before .before .before .before .replace .ensures .fits))))))
+draw-named-requires-2 c κs =
+    let c₄ = c .before .before .before .before in
+    let c₅ = c₄ .before in
+    let c₆ = c₅ .before in
+    let c₇ = c₆ .before in
+    let c₈ = c₇ .before in
+    let c₉ = c₈ .before in
+    let c₁₀ = c₉ .before in
+    let c₁₁ = c₁₀ .before in
+    let c₁₂ = c₁₁ .before in
+    let c₁₇ = c₁₂ .before .before .before .before .before in
+    (room-as (sym (record-by (c₁₇ .args .later) _ _ _ _ _ _ (sym (c₁₂ .is-private .ensures) ∙ c₁₁ .if3 .left) _ (public-renamed _ _ _ _ _ _ (sym (c₁₀ .absent2 .ensures) ∙ c₉ .if4 .left) (c₈ .base2 .ensures) (c₇ .string .ensures) (c₆ .string2 .ensures) (c₅ .replace .ensures .given (not-false _ (c₄ .if5 .left)))))) (c₁₇ .pre .0), (c₁₇ .pre .1 .0, (c₁₇ .pre .1 .1 .0, (c₁₇ .pre .1 .1 .1 .0, (c₁₇ .pre .1 .1 .1 .1, omega (arith, c₅ .replace .ensures .used, c₅ .replace .ensures .fits))))))
 
 returns-5 : tie.Need-returns-5
-returns-5 c = drew-as (record-by (c .before .before .before .before .before .before .before .before .before .before .before .before .before .before .before .before .before .before .before .before .args .later) _ _ _ _ _ _ (sym (c .before .before .before .before .before .before .before .before .before .before .before .before .before .before .before .is-private .ensures) ∙ c .before .before .before .before .before .before .before .before .before .before .before .before .before .before .if3 .left) _ (public-renamed _ _ _ _ _ _ (sym (c .before .before .before .before .before .before .before .before .before .before .before .before .before .absent2 .ensures) ∙ c .before .before .before .before .before .before .before .before .before .before .before .before .if4 .left) (c .before .before .before .before .before .before .before .before .before .before .before .base2 .ensures) (c .before .before .before .before .before .before .before .before .before .before .string .ensures) (c .before .before .before .before .before .before .before .before .before .string2 .ensures) (c .before .before .before .before .before .before .before .before .replace .ensures .given (not-false _ (c .before .before .before .before .before .before .before .if5 .left))))) (c .before .before .draw-named2 .ensures)
+returns-5 c =
+    let c₇ = c .before .before .before .before .before .before .before in
+    let c₈ = c₇ .before in
+    let c₉ = c₈ .before in
+    let c₁₀ = c₉ .before in
+    let c₁₁ = c₁₀ .before in
+    let c₁₂ = c₁₁ .before in
+    let c₁₃ = c₁₂ .before in
+    let c₁₄ = c₁₃ .before in
+    let c₁₅ = c₁₄ .before in
+    let c₂₀ = c₁₅ .before .before .before .before .before in
+    drew-as
+    (record-by (c₂₀ .args .later) _ _ _ _ _ _ (sym (c₁₅ .is-private .ensures) ∙ c₁₄ .if3 .left) _ (public-renamed _ _ _ _ _ _ (sym (c₁₃ .absent2 .ensures) ∙ c₁₂ .if4 .left) (c₁₁ .base2 .ensures) (c₁₀ .string .ensures) (c₉ .string2 .ensures) (c₈ .replace .ensures .given (not-false _ (c₇ .if5 .left)))))
+    (c .before .before .draw-named2 .ensures)
 
 pub draw-record-spec : {M : Type 1} → statement M
 draw-record-spec =

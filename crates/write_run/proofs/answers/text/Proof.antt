@@ -10,7 +10,9 @@ returns : tie.Need-returns
 returns c = string-here _ _ _ _ (c .before .before .wide .ensures .0 ∙ c .before .before .before .word .ensures) (omega arith) (c .part .ensures)
 
 returns-2 : tie.Need-returns-2
-returns-2 c = string-none _ _ _ _ (c .before .before .wide .ensures .0 ∙ c .before .before .before .word .ensures) (omega arith) (c .part2 .ensures ∙ no-part _)
+returns-2 c =
+    let c₃ = c .before .before .before in
+    string-none _ _ _ _ (c .before .before .wide .ensures .0 ∙ c₃ .word .ensures) (omega arith) (c .part2 .ensures ∙ no-part _)
 
 pub text-spec : {M : Type 1} → statement M
 text-spec = tie.close
