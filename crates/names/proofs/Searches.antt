@@ -4,13 +4,16 @@ use mathlib.Core.Path.{_≡_, refl, sym, ap, _∙_}
 use mathlib.Core.Bool.{Bool, true, false}
 use mathlib.Core.Option.{Option, none, some}
 use mathlib.Core.List.{[], _∷_}
-use native.Mathlib.Nat.{sub-zero}
+use native.Mathlib.Decide.{decLe}
+use native.Mathlib.Nat.{add-zero, sub-zero}
 use native.Mathlib.Omega.{arith}
 use lib.ListN.{length, getD, take, drop, length-take, length-drop}
 use lib.Seq.{getD-take, getD-drop, take-all}
 use lib.Dec.{eqb}
-use Rattle.wire.specs.Bytes.{Bytes, same, starts, first, part}
+use borrow.Author.Tests.{eqb-true, eqb-false}
+use Rattle.wire.specs.Bytes.{Bytes, same, starts, first, part, before}
 use Rattle.wire.proofs.Bytes.{same-longer, same-later, same-stop, same-end, length-part}
+use Rattle.wire.proofs.Parts.{length-before, before-here, before-later, before-end}
 use Rattle.format.specs.Names.{occursAt, find}
 use Rattle.names.specs.Search.{placeOf}
 use Rattle.names.specs.declared.search.Place.{Place}
@@ -83,6 +86,54 @@ module _ (p s : Bytes) (i j : ℕ) (h : j < length p) (k : i + length p ≤ leng
 pub agree-end : (p s : Bytes) (i j : ℕ) → length p ≤ j → same (drop j (part s i (length p))) (drop j p) ≡ true
 unfolding part
 agree-end p s i j h = same-end (part s i (length p)) p j (omega (arith, length-take (length p) (drop i s))) h
+
+-- ---- the first byte
+
+part-some : (s : Bytes) (i n : ℕ) → 0 < n → i < length s → 0 < length (part s i n)
+unfolding part
+part-some s i n f h = omega (arith, length-take n (drop i s), length-drop i s)
+
+first-differs : (p s : Bytes) (i : ℕ) → 0 < length p → i < length s → (getD s i 0 ≡ getD p 0 0 → ⊥) → same (part s i (length p)) p ≡ false
+first-differs p s i full h e =
+    let here : getD (part s i (length p)) 0 0 ≡ getD s i 0 = getD-part s i (length p) 0 full ∙ ap (λ (k : ℕ). getD s k 0) (add-zero i) in
+    same-stop (part s i (length p)) p 0 (part-some s i (length p) full h) full (λ q. e (sym here ∙ q))
+
+-- places that do not have the pattern's first byte are passed over
+find-skip : (p s : Bytes) (n i : ℕ) → 0 < length p → length s ≤ i + n → i ≤ length s
+    → findFrom p s (i + length (before (getD p 0 0) (drop i s))) ≡ findFrom p s i
+find-skip p s zero i full few inside = ap (findFrom p s) (before-end (getD p 0 0) s i (omega arith))
+find-skip p s (suc n) i full few inside = side (decLe (length s) i) (λ h. find-skip p s n (i + 1) full (omega arith) (omega arith))
+  where
+    next : Type 0
+    next = findFrom p s (i + 1 + length (before (getD p 0 0) (drop (i + 1) s))) ≡ findFrom p s (i + 1)
+
+    one : i < length s → next → (t : Bool) → eqb (getD s i 0) (getD p 0 0) ≡ t → findFrom p s (i + length (before (getD p 0 0) (drop i s))) ≡ findFrom p s i
+    one h ih true e = ap (findFrom p s) (before-here (getD p 0 0) s i h (eqb-true _ _ e))
+    one h ih false e =
+        let other = eqb-false (getD s i 0) (getD p 0 0) e in
+        ap (findFrom p s) (before-later (getD p 0 0) s i h other) ∙ ih ∙ sym (find-later p s i inside (first-differs p s i full h other))
+
+    side : Dec (length s ≤ i) → (i < length s → next) → findFrom p s (i + length (before (getD p 0 0) (drop i s))) ≡ findFrom p s i
+    side (yes h) ih = ap (findFrom p s) (before-end (getD p 0 0) s i h)
+    side (no h) ih = let k : i < length s = omega arith in one k (ih k) (eqb (getD s i 0) (getD p 0 0)) refl
+
+pub skip-inside : (c : ℕ) (s : Bytes) (i : ℕ) → i ≤ length s → i + length (before c (drop i s)) ≤ length s
+skip-inside c s i h = omega (arith, length-before c (drop i s), length-drop i s)
+
+pub skip-at : (c : ℕ) (s t : Bytes) (i n r : ℕ) → i ≤ length s → n ≡ length s - i → t ≡ part s i n → r ≡ length (before c t) → i + r ≡ i + length (before c (drop i s))
+unfolding part
+skip-at c s t i n r h e f g =
+    let rest : take n (drop i s) ≡ drop i s = take-all n (drop i s) (omega (arith, length-drop i s)) in
+    ap (λ (k : ℕ). i + k) (g ∙ ap (λ (x : Bytes). length (before c x)) (f ∙ rest))
+
+-- after a skip the pattern first stands where it did
+pub skipped : (p s : Bytes) (i k : ℕ) → 0 < length p → i ≤ length s → k ≡ i + length (before (getD p 0 0) (drop i s)) → findFrom p s i ≡ find p s
+    → findFrom p s k ≡ find p s
+skipped p s i k full h e f = ap (findFrom p s) e ∙ find-skip p s (length s) i full (omega arith) h ∙ f
+
+-- an empty pattern stands at 0
+pub find-empty : (p s : Bytes) → length p ≡ 0 → find p s ≡ some 0
+find-empty p s e = sym (find-start p s) ∙ find-here p s 0 (omega arith) (agree-end p s 0 0 (omega arith))
 
 -- ---- starts
 

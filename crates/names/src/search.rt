@@ -1,6 +1,8 @@
 // Where a pattern stands.
 ghost use mathlib.Core.Path.{_≡_};
-ghost use Rattle.wire.specs.Bytes.{starts};
+ghost use Prim.Native.Nat.{_+_, _≤_};
+ghost use lib.ListN.{length, drop};
+ghost use Rattle.wire.specs.Bytes.{starts, before};
 ghost use Rattle.format.specs.Names.{find};
 ghost use Rattle.names.specs.Search.{placeOf};
 
@@ -9,28 +11,42 @@ pub enum Place {
     Nowhere,
 }
 
-// The first place of text at which all bytes of pattern agree; an empty pattern stands at 0.
+// The first place from i on at which text has a byte, or its end.
+fn skip(text: &[u8], i: usize, c: u8) -> usize
+    requires { ⌜ i ≤ length (now text) ⌝ }
+    ensures { λ r. ⌜ (r ≡ i + length (before c (drop i (now (text .entry))))) × (r ≤ length (now (text .entry))) ⌝ }
+{
+    i + wire::index_of(wire::part(text, i, text.len() - i), c)
+}
+
+// The first place of text at which all bytes of pattern agree; an empty pattern stands at 0. Only places that have the pattern's
+// first byte are compared.
 pub fn find(pattern: &[u8], text: &[u8]) -> Place
     ensures { λ r. ⌜ r ≡ placeOf (find (now (pattern .entry)) (now (text .entry))) ⌝ }
 {
     let m = pattern.len();
     let n = text.len();
+    if m == 0 {
+        return Place::At(0);
+    }
+    let c = pattern[0];
     let mut i = 0;
     let at = 'search: loop {
-        if n - i < m {
+        let k = skip(text, i, c);
+        if n - k < m {
             return Place::Nowhere;
         }
         let mut j = 0;
         loop {
             if j == m {
-                break 'search i;
+                break 'search k;
             }
-            if text[i + j] != pattern[j] {
+            if text[k + j] != pattern[j] {
                 break;
             }
             j += 1;
         }
-        i += 1;
+        i = k + 1;
     };
     Place::At(at)
 }

@@ -1,5 +1,5 @@
 -- `names::search::find` meets its contract. The outer loop's invariant: the pattern first stands where it first stands from i on. The inner one's: what is
--- left of the part at i agrees with what is left of the pattern exactly where the wholes agree.
+-- left of the part at k agrees with what is left of the pattern exactly where the wholes agree.
 use Prim.Native.Nat.{_-_, _≤_}
 use mathlib.Core.Path.{_≡_, refl, sym, ap, _∙_}
 use lib.ListN.{length, drop}
@@ -8,31 +8,39 @@ use borrow.Author.Needs.{needs}
 use Rattle.wire.specs.Bytes.{same, part}
 use Rattle.format.specs.Names.{find}
 use Rattle.names.specs.Search.{placeOf}
-use Rattle.names.proofs.Searches.{findFrom, find-start, find-here, find-later, find-short, agree-later, agree-stop, agree-end}
+use Rattle.names.proofs.Searches.{findFrom, find-start, find-empty, find-here, find-later, find-short, skipped, agree-later, agree-stop, agree-end}
 use Rattle.names.proofs.search.find.Statement.{statement}
 use Rattle.names.proofs.search.find.Tie as tie
 
 abbrev Inv-loop : tie.InvT-loop
-Inv-loop pattern text m n i j₀ j =
+Inv-loop pattern text m n c i k j₀ j =
     (j ≤ length pattern)
-    × (same (part text i (length pattern)) pattern ≡ same (drop j (part text i (length pattern))) (drop j pattern))
+    × (same (part text k (length pattern)) pattern ≡ same (drop j (part text k (length pattern))) (drop j pattern))
 
 abbrev μ-loop : tie.MeasureT-loop
-μ-loop pattern text m n i j₀ j = length pattern - j
+μ-loop pattern text m n c i k j₀ j = length pattern - j
 
 abbrev Inv-search : tie.InvT-search
-Inv-search pattern text m n i₀ i = (i ≤ length text) × (findFrom pattern text i ≡ find pattern text)
+Inv-search pattern text m n c i₀ i = (i ≤ length text) × (findFrom pattern text i ≡ find pattern text)
 
 abbrev μ-search : tie.MeasureT-search
-μ-search pattern text m n i₀ i = length text - i
+μ-search pattern text m n c i₀ i = length text - i
+
+returns : tie.Need-returns Inv-loop μ-loop Inv-search μ-search
+returns c = sym (ap placeOf (find-empty _ _ (c .if1 .taken)))
 
 search-holds : tie.Need-search-holds Inv-loop μ-loop Inv-search μ-search
 search-holds c = (search needs, find-start _ _)
 
-returns : tie.Need-returns Inv-loop μ-loop Inv-search μ-search
-returns c =
-    let at = c .before .search in
-    sym (ap placeOf (sym (at .inv .1) ∙ find-short _ _ (at .i) (at .inv .0) (omega arith)))
+skip-requires : tie.Need-skip-requires Inv-loop μ-loop Inv-search μ-search
+skip-requires c κs = c .search .inv .0
+
+returns-2 : tie.Need-returns-2 Inv-loop μ-loop Inv-search μ-search
+returns-2 c =
+    let at = c .before .before .search in
+    let a = c .before .before .before .before .before .before .before .args in
+    let from = skipped (a .pattern .now) (a .text .now) (at .i) (c .before .skip .result) (omega arith) (at .inv .0) (c .before .skip .ensures .0) (at .inv .1) in
+    sym (ap placeOf (sym from ∙ find-short _ _ (c .before .skip .result) (c .before .skip .ensures .1) (omega (arith, c .before .skip .ensures .1))))
 
 loop-holds : tie.Need-loop-holds Inv-loop μ-loop Inv-search μ-search
 loop-holds c = (search needs, refl)
@@ -40,29 +48,33 @@ loop-holds c = (search needs, refl)
 loop-again : tie.Need-loop-again Inv-loop μ-loop Inv-search μ-search
 loop-again c =
     let b = c .before .before .before .before in
-    let a = b .before .before .before .args in
-    let at = b .before .before .search in
-    (omega arith, b .loop .inv .1 ∙ agree-later (a .pattern .now) (a .text .now) (at .i) (b .loop .j) (omega arith) (omega arith) (c .if3 .left))
+    let k = b .before .before .skip .result in
+    let a = b .before .before .before .before .before .before .before .before .args in
+    (omega arith, b .loop .inv .1 ∙ agree-later (a .pattern .now) (a .text .now) k (b .loop .j) (omega arith) (omega arith) (c .if4 .left))
 
 search-again : tie.Need-search-again Inv-loop μ-loop Inv-search μ-search
 search-again c =
     let b = c .before .before .before .before in
-    let a = b .before .before .before .args in
-    let at = b .before .before .search in
-    let no = b .loop .inv .1 ∙ agree-stop (a .pattern .now) (a .text .now) (at .i) (b .loop .j) (omega arith) (omega arith) (c .if3 .taken) in
-    (omega arith, sym (find-later _ _ (at .i) (at .inv .0) no) ∙ at .inv .1)
+    let s = b .before .before in
+    let at = s .before .search in
+    let a = s .before .before .before .before .before .before .args in
+    let from = skipped (a .pattern .now) (a .text .now) (at .i) (s .skip .result) (omega arith) (at .inv .0) (s .skip .ensures .0) (at .inv .1) in
+    let no = b .loop .inv .1 ∙ agree-stop (a .pattern .now) (a .text .now) (s .skip .result) (b .loop .j) (omega arith) (omega arith) (c .if4 .taken) in
+    (omega arith, sym (find-later _ _ (s .skip .result) (s .skip .ensures .1) no) ∙ from)
 
-returns-2 : tie.Need-returns-2 Inv-loop μ-loop Inv-search μ-search
-returns-2 c =
+returns-3 : tie.Need-returns-3 Inv-loop μ-loop Inv-search μ-search
+returns-3 c =
     let b = c .before in
-    let a = b .before .before .before .args in
-    let at = b .before .before .search in
-    let yes = b .loop .inv .1 ∙ agree-end (a .pattern .now) (a .text .now) (at .i) (b .loop .j) (omega arith) in
-    sym (ap placeOf (sym (at .inv .1) ∙ find-here _ _ (at .i) (at .inv .0) yes))
+    let s = b .before .before in
+    let at = s .before .search in
+    let a = s .before .before .before .before .before .before .args in
+    let from = skipped (a .pattern .now) (a .text .now) (at .i) (s .skip .result) (omega arith) (at .inv .0) (s .skip .ensures .0) (at .inv .1) in
+    let yes = b .loop .inv .1 ∙ agree-end (a .pattern .now) (a .text .now) (s .skip .result) (b .loop .j) (omega arith) in
+    sym (ap placeOf (sym from ∙ find-here _ _ (s .skip .result) (s .skip .ensures .1) yes))
 
 pub find-spec : {M : Type 1} → statement M
 find-spec =
     tie.close
-    (tie.spec Inv-loop μ-loop Inv-search μ-search search-holds (λ c. omega arith) returns loop-holds (λ c. omega arith)
-    (λ c. omega arith) (λ c. omega arith) (λ c. omega arith) (λ c. omega arith) loop-again (λ c. omega arith) (λ c. omega arith)
-    search-again returns-2)
+    (tie.spec Inv-loop μ-loop Inv-search μ-search returns (λ c. omega arith) search-holds skip-requires (λ c. omega arith) returns-2 loop-holds
+    (λ c. omega arith) (λ c. omega arith) (λ c. omega arith) (λ c. omega arith) (λ c. omega arith) loop-again (λ c. omega arith) (λ c. omega arith)
+    search-again returns-3)
