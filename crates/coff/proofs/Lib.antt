@@ -1,5 +1,2 @@
--- Laws of the machines' table, of section numbers and of the records' fields; that each record's reader undoes its writer.
+-- Laws of the machines' table.
 pub mod Table
-pub mod Words
-pub mod Fields
-pub mod ReadBack

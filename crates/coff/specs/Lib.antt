@@ -1,4 +1,3 @@
--- The numbers of the import enums, the machines of the table, and the records as bytes and in bytes.
+-- The numbers of the import enums, and the machines of the table.
 pub mod Import
 pub mod Machines
-pub mod Records

@@ -1,5 +1,4 @@
-// Machines, import types and the COFF records: a port of coff.rs, with the records of the PE Format document.
+// Machines and import types: a port of coff.rs, with the constants of the PE Format document.
 pub mod constants;
 pub mod import;
 pub mod machines;
-pub mod records;

@@ -2,10 +2,10 @@
 use coff::machines;
 use coff::machines::Machine;
 use format::Written;
+use layout::places::ENTRY_SIZE;
+use layout::places::FIXED_MEMBERS;
+use layout::places::SET_HEADER_SIZE;
 use lists::record;
-use members::layouts::ENTRY_SIZE;
-use members::layouts::FIXED_MEMBERS;
-use members::layouts::SET_HEADER_SIZE;
 use walks::pen::at_of;
 use walks::pen::draw_fixed;
 use walks::pen::entry_of;

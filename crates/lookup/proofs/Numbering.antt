@@ -23,9 +23,9 @@ use Rattle.laws.proofs.Names.{At, first-at}
 use Rattle.laws.proofs.Leads.{apply-within}
 use Rattle.laws.proofs.Lengths.{length-encode-short}
 use Rattle.laws.proofs.ReadBack.{read-sound}
-use Rattle.names.specs.Search.{placeOf}
-use Rattle.names.specs.declared.search.Place.the-variants as P
-use Rattle.names.proofs.Searches.{first-here, first-later, place-at, place-nowhere}
+use Rattle.search.specs.Search.{placeOf}
+use Rattle.search.specs.declared.Place.the-variants as P
+use Rattle.search.proofs.Searches.{first-here, first-later, place-at, place-nowhere}
 use Rattle.lookup.specs.Numbered.{bytesOf, memberAt, symbolsOf, definesAt, definerFrom, entryBy, ledBy, ledAt, stepFrom, answerFrom}
 use Rattle.lookup.proofs.Laying.{laid-count, laid-member, length-bytesOf}
 use Rattle.lookup.proofs.Saying.{Mute, SaidShort, SaidWeak}

@@ -9,13 +9,13 @@ pub mod entries; // entries.rt: what a short import answers
 
 use format::Looked;
 use format::Read;
-use members::layouts::FIXED_MEMBERS;
-use names::search::Place;
+use layout::places::FIXED_MEMBERS;
+use search::Place;
 ghost use Prim.Native.Nat.{_-_, _≤_};
 ghost use mathlib.Core.Path.{_≡_};
 ghost use mathlib.Core.Bool.{true};
 ghost use Rattle.format.specs.Lookup.{setCount, laidOut, lookup};
-ghost use Rattle.names.specs.Search.{placeOf};
+ghost use Rattle.search.specs.Search.{placeOf};
 ghost use Rattle.lookup.specs.Numbered.{definerFrom, stepFrom, answerFrom};
 
 // The numbers of the lists.

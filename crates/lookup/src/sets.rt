@@ -1,8 +1,8 @@
 // A member set: its header, its directory, and its members by their numbers.
 use format::Read;
-use members::layouts::ENTRY_SIZE;
-use members::layouts::FIXED_MEMBERS;
-use members::layouts::SET_HEADER_SIZE;
+use layout::places::ENTRY_SIZE;
+use layout::places::FIXED_MEMBERS;
+use layout::places::SET_HEADER_SIZE;
 ghost use Prim.Native.Nat.{_+_, _*_, _≤_, _<_};
 ghost use mathlib.Core.Path.{_≡_};
 ghost use mathlib.Core.Bool.{true};

@@ -1,4 +1,4 @@
--- Members and names by the flag or the type that decides them.
+-- Members by the flag or the type that decides them.
 use Prim.Native.Nat.{ℕ, _+_, _*_, _≤_}
 use mathlib.Core.Path.{_≡_, refl, sym, ap, _∙_}
 use mathlib.Core.Bool.{Bool, true, false, false≢true}
@@ -7,25 +7,13 @@ use native.Mathlib.Omega.{arith}
 use borrow.Author.Tests.{eq-eqb, ne-eqb}
 use lib.Dec.{eqb}
 use Rattle.wire.specs.Bytes.{Bytes, ascii, if_then_else_}
-use Rattle.format.specs.Layouts.{short, nullName, compatStem, shortBytes, shortStrings, weakBytes, encode}
+use Rattle.format.specs.Layouts.{short, shortBytes, shortStrings, weakBytes, encode}
 use Rattle.coff.specs.Import.{kindNumber, typeNumber}
 use Rattle.coff.specs.declared.import.ImportType.{ImportType}
 use Rattle.coff.specs.declared.import.ImportType.the-variants.{Code, Data, Const}
 use Rattle.coff.specs.declared.import.ImportNameType.{ImportNameType}
 use Rattle.coff.specs.declared.import.ImportNameType.the-variants.{Ordinal, Name, NameNoprefix, NameUndecorate, NameExportas}
 use Rattle.members.specs.Members.{shortOf, weakOf}
-
--- ---- the null import descriptor's name
-
-pub nullName-compat : (compat : Bool) (s : Bytes) → compat ≡ true → ascii "__NULL_IMPORT_DESCRIPTOR_" ++ s ≡ nullName (compatStem compat s)
-unfolding nullName compatStem
-nullName-compat true s e = refl
-nullName-compat false s e = absurd (false≢true e)
-
-pub nullName-plain : (compat : Bool) (s : Bytes) → compat ≡ false → ascii "__NULL_IMPORT_DESCRIPTOR" ≡ nullName (compatStem compat s)
-unfolding nullName compatStem
-nullName-plain true s e = absurd (false≢true (sym e))
-nullName-plain false s e = refl
 
 -- ---- short imports
 

@@ -1,6 +1,4 @@
--- Laws of the members' parts, by subject.
-pub mod Runs
-pub mod ByWidth
+-- Laws of the members, by subject.
 pub mod Cases
 pub mod Sizes
 pub mod Extending

@@ -1,2 +1,2 @@
--- Runs of the parts of a layout, as the functions write them.
+-- Members by what is given.
 pub mod Members

@@ -1,25 +1,7 @@
 // The five members of an import library, written: a port of ObjectFactory of coff_import_file.rs. Each is one function, in the
 // order of its bytes: header, sections, data, symbols, strings. A name is copied to its place and nowhere else.
-pub mod layouts; // layouts.rt: where the parts of a member stand
-pub mod widths; // widths.rt: what a machine's width decides
-pub mod tables; // tables.rt: strings with NUL, and string tables
-pub mod parts; // parts.rt: runs of records
 pub mod extents; // extents.rt: how many bytes each member has
 
-use crate::layouts::DATA_AT_1;
-use crate::layouts::DATA_AT_2;
-use crate::layouts::DESCRIPTOR_SYMBOLS;
-use crate::layouts::DLL_AT;
-use crate::layouts::DRECTVE;
-use crate::layouts::FIRST_SECTION;
-use crate::layouts::IDATA_4BYTES;
-use crate::layouts::NULL_SYMBOLS_AT;
-use crate::layouts::WEAK_SYMBOLS;
-use crate::tables::IMPORT_DESCRIPTOR_PREFIX;
-use crate::tables::NUL;
-use crate::tables::NULL_THUNK_DATA_PREFIX;
-use crate::tables::NULL_THUNK_DATA_SUFFIX;
-use crate::tables::STRINGS_AT;
 use coff::constants::IMAGE_SCN_CNT_INITIALIZED_DATA;
 use coff::constants::IMAGE_SCN_MEM_READ;
 use coff::constants::IMAGE_SCN_MEM_WRITE;
@@ -27,10 +9,27 @@ use coff::constants::IMAGE_SYM_CLASS_EXTERNAL;
 use coff::import::ImportNameType;
 use coff::import::ImportType;
 use coff::machines::Machine;
-use coff::records::FileHeader;
-use coff::records::ImportDescriptor;
-use coff::records::ImportObjectHeader;
-use coff::records::Section;
+use layout::parts;
+use layout::places::DATA_AT_1;
+use layout::places::DATA_AT_2;
+use layout::places::DESCRIPTOR_SYMBOLS;
+use layout::places::DLL_AT;
+use layout::places::DRECTVE;
+use layout::places::FIRST_SECTION;
+use layout::places::IDATA_4BYTES;
+use layout::places::NULL_SYMBOLS_AT;
+use layout::places::WEAK_SYMBOLS;
+use layout::tables;
+use layout::tables::IMPORT_DESCRIPTOR_PREFIX;
+use layout::tables::NUL;
+use layout::tables::NULL_THUNK_DATA_PREFIX;
+use layout::tables::NULL_THUNK_DATA_SUFFIX;
+use layout::tables::STRINGS_AT;
+use layout::widths;
+use records::FileHeader;
+use records::ImportDescriptor;
+use records::ImportObjectHeader;
+use records::Section;
 ghost use Prim.Native.Nat.{_≤_};
 ghost use mathlib.Core.List.{[], _∷_, _++_};
 ghost use lib.ListN.{length};

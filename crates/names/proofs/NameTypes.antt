@@ -19,7 +19,7 @@ use Rattle.wire.proofs.Parts.{part-last, take-before, length-before}
 use Rattle.format.specs.Machines.{i386}
 use Rattle.format.specs.Names.{question, at-sign, underscore, prefixed, noprefix, undecorate, apply, dropped, plainType}
 use Rattle.names.specs.Types.{Applied}
-use Rattle.names.proofs.Searches.{take-rest}
+use Rattle.search.proofs.Searches.{take-rest}
 
 -- ---- the tests, by their outcomes
 

@@ -11,7 +11,7 @@ use Rattle.wire.specs.Writes.{Wrote}
 use Rattle.wire.proofs.Writes.{_⨾_, wrote-as}
 use Rattle.format.specs.Names.{underscore, find, splice, replaceOnce, replace}
 use Rattle.laws.proofs.Names.{find-within, replace-length}
-use Rattle.names.proofs.Searches.{take-rest}
+use Rattle.search.proofs.Searches.{take-rest}
 use Rattle.names.proofs.BuiltNames.{built-wrote}
 use Rattle.names.specs.Rename.{renamedOf, atOf, endOf, skipOf, Located, Room, Renamed}
 use Rattle.names.specs.Built.{Built}

@@ -1,5 +1,4 @@
 -- What the answers of the name rules say, in the words of format's definitions.
-pub mod Search
 pub mod Built
 pub mod Rename
 pub mod Types

@@ -4,15 +4,15 @@ ghost use mathlib.Core.Path.{_≡_};
 ghost use mathlib.Core.List.{_∷_};
 ghost use lib.ListN.{length};
 ghost use Rattle.format.specs.Names.{hash, tag, find};
-ghost use Rattle.names.specs.Search.{placeOf};
+ghost use Rattle.search.specs.Search.{placeOf};
 ghost use Rattle.names.specs.Built.{Built};
 ghost use Rattle.names.specs.Mangler.{manglingOf, Demangles};
 use crate::built::BuiltName;
 use crate::built::fresh;
 use crate::built::lay;
-use crate::search::Place;
-use crate::search::find;
-use crate::search::starts_with;
+use search::Place;
+use search::find;
+use search::starts_with;
 
 // How many bytes the tag `$$h` has.
 pub const TAG_LEN: usize = 3;

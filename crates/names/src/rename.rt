@@ -9,9 +9,9 @@ ghost use Rattle.names.specs.Built.{Built};
 use crate::built::BuiltName;
 use crate::built::fresh;
 use crate::built::lay;
-use crate::search::Place;
-use crate::search::find;
-use crate::search::starts_with;
+use search::Place;
+use search::find;
+use search::starts_with;
 
 // How a name comes about: the bytes of s from at to end are replaced by those of to from skip on.
 pub enum Renaming {

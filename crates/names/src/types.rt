@@ -9,10 +9,10 @@ ghost use Rattle.format.specs.Machines.{i386};
 ghost use Rattle.format.specs.Names.{underscore, at-sign, prefixed, plainType};
 ghost use Rattle.coff.specs.Import.{typeNumber};
 ghost use Rattle.names.specs.Types.{Applied};
-use crate::search::starts_with;
 use coff::constants::IMAGE_FILE_MACHINE_I386;
 use coff::import::ImportNameType;
 use format::Span;
+use search::starts_with;
 
 // How many bytes noprefix drops: one leading `?`, `@` or `_`.
 fn ltrim1(name: &[u8]) -> usize

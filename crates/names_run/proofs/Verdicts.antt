@@ -10,7 +10,7 @@ use native.Mathlib.Omega.{arith}
 use borrow.Author.Tests.{eqb-true}
 use Rattle.wire.specs.Bytes.{Bytes, if_then_else_, same}
 use Rattle.wire.proofs.Bytes.{same-eq}
-use Rattle.names.proofs.Searches.{take-rest}
+use Rattle.search.proofs.Searches.{take-rest}
 use Rattle.format.specs.Names.{demangle, apply}
 use Rattle.names.specs.Mangler.{Demangles, demangledOf}
 use Rattle.names.specs.declared.mangler.Demangled.{Demangled}

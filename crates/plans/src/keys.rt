@@ -4,7 +4,7 @@ use crate::gives;
 use crate::plan;
 use lists::record;
 use names::rename;
-use names::search::Place;
+use search::Place;
 ghost use mathlib.Core.Path.{_≡_};
 ghost use mathlib.Core.Option.{some};
 ghost use Prim.Native.Nat.{_-_, _≤_};
@@ -15,7 +15,7 @@ ghost use Rattle.format.specs.Library.{answersTo};
 ghost use Rattle.format.specs.Refusals.{checkList};
 ghost use Rattle.format.specs.declared.Checked.the-variants.{Fine};
 ghost use Rattle.lists.specs.Held.{Held};
-ghost use Rattle.names.specs.Search.{placeOf};
+ghost use Rattle.search.specs.Search.{placeOf};
 ghost use Rattle.plans.specs.Keys.{keyAt, lastIn};
 
 // Whether the import of a record under its public name has the wanted key.

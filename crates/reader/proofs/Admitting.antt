@@ -28,37 +28,12 @@ text-clear : (b : Bytes) (at : ℕ) → Clear (textAt b at)
 unfolding textAt
 text-clear b at = before-free 0 (drop at b)
 
--- past the end there is none
-pub text-out : {r : Bytes} (b : Bytes) (at : ℕ) → length b ≤ at → r ≡ part b 0 0 → r ≡ textAt b at
-unfolding textAt before part
-text-out b at h e = e ∙ ap (before 0) (sym (drop-of-length-le b h))
-
 -- the first bytes of what stands at a place
 pub text-first : {rest r : Bytes} (b : Bytes) (at n : ℕ) → at ≤ length b → rest ≡ part b at (length b - at) → n ≡ length (before 0 rest) → r ≡ part rest 0 n
     → r ≡ textAt b at
 unfolding textAt
 text-first {rest} b at n h e l f =
     f ∙ ap (part rest 0) l ∙ part-before 0 rest ∙ ap (before 0) (e ∙ part-last b at (length b - at) (omega arith))
-
-pub length-text : (b : Bytes) (at : ℕ) → length (textAt b at) ≤ length b - at
-unfolding textAt
-length-text b at = omega (arith, length-before 0 (drop at b), length-drop at b)
-
-part-text : (b : Bytes) (at : ℕ) → part b at (length (textAt b at)) ≡ textAt b at
-unfolding part textAt
-part-text b at = take-before 0 (drop at b)
-
--- it stands where it was taken
-pub text-found : {s : Bytes} (b : Bytes) (at : ℕ) → s ≡ textAt b at → W.Found b at s (at + length s)
-unfolding part
-text-found {s} b at e = pick (decLe at (length b))
-  where
-    pick : Dec (at ≤ length b) → W.Found b at s (at + length s)
-    pick (yes h) = found-there b at s (length s) refl (omega (arith, ap length e, length-text b at)) (ap (part b at) (ap length e) ∙ part-text b at ∙ sym e)
-    pick (no h) =
-        let n : s ≡ [] = e ∙ sym (text-out {r = []} b at (omega arith) refl) in
-        let z : at ≡ at + length s = omega (arith, ap length n) in
-        subst (λ (r : ℕ). W.Found b at s r) z (found-as (sym n) (found-none b at))
 
 -- it and a part of it hold no NUL
 pub clear-as : {s : Bytes} (b : Bytes) (at : ℕ) → s ≡ textAt b at → Clear s

@@ -17,8 +17,8 @@ use Rattle.format.specs.Reader.{between, admitsDll, ordinary, admits, textAt, n
 use Rattle.format.specs.declared.Read.{Read}
 use Rattle.format.specs.declared.Read.the-variants.{Refused}
 use Rattle.laws.proofs.Lengths.{length-encode-descriptor, length-encode-nullDescriptor-none, length-encode-nullDescriptor-some, length-encode-nullThunk, length-encode-short, length-encode-weak}
-use Rattle.coff.specs.Records.{importHeaderAt}
-use Rattle.coff.specs.declared.records.ImportObjectHeader.{ImportObjectHeader}
+use Rattle.records.specs.Records.{importHeaderAt}
+use Rattle.records.specs.declared.ImportObjectHeader.{ImportObjectHeader}
 use Rattle.reader.specs.Answers.{answer, objectGuess, admitsTypes}
 use Rattle.reader.proofs.Admitting.{between-less}
 use Rattle.reader.proofs.Answering.{barred, admits-null-of, admits-thunk}

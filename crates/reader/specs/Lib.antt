@@ -1,3 +1,2 @@
--- What the reader looks for, and what it answers for a member.
-pub mod Finds
+-- What the reader answers for a member.
 pub mod Answers

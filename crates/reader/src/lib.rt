@@ -3,30 +3,27 @@
 // The fields are taken from where the one layout that fits the header has them. Whether the member that they make is admitted
 // is tested, and its bytes are looked for part after part: they must end where the bytes end. Nothing is copied; a name is
 // answered by its place.
-pub mod tables; // tables.rt: strings with NUL, and string tables
-pub mod parts; // parts.rt: runs of records
-pub mod layouts; // layouts.rt: the five layouts
 pub mod texts; // texts.rt: names in bytes, and what is admitted
 pub mod answers; // answers.rt: what is answered for a member
 
 use crate::answers::REFUSED;
-use crate::tables::NULL_STRINGS_AT;
-use crate::tables::SYMBOL_AT;
-use crate::tables::WEAK_STRINGS_AT;
 use coff::machines::Found;
 use coff::machines::Machine;
-use coff::records::FileHeader;
-use coff::records::ImportObjectHeader;
+use finds::tables::NULL_STRINGS_AT;
+use finds::tables::SYMBOL_AT;
+use finds::tables::WEAK_STRINGS_AT;
 use format::Read;
+use layout::places::DESCRIPTOR_SYMBOLS;
+use layout::places::DLL_AT;
+use layout::places::WEAK_SYMBOLS;
+use layout::tables::NUL;
+use layout::tables::NULL_IMPORT_DESCRIPTOR_SYMBOL_NAME;
+use layout::tables::NULL_IMPORT_DESCRIPTOR_SYMBOL_NAME_PREFIX;
+use layout::tables::NULL_THUNK_DATA;
+use layout::tables::NULL_THUNK_DATA_PREFIX;
 use members::extents;
-use members::layouts::DESCRIPTOR_SYMBOLS;
-use members::layouts::DLL_AT;
-use members::layouts::WEAK_SYMBOLS;
-use members::tables::NUL;
-use members::tables::NULL_IMPORT_DESCRIPTOR_SYMBOL_NAME;
-use members::tables::NULL_IMPORT_DESCRIPTOR_SYMBOL_NAME_PREFIX;
-use members::tables::NULL_THUNK_DATA;
-use members::tables::NULL_THUNK_DATA_PREFIX;
+use records::FileHeader;
+use records::ImportObjectHeader;
 ghost use Prim.Native.Nat.{_≤_};
 ghost use mathlib.Core.Path.{_≡_};
 ghost use lib.ListN.{length};

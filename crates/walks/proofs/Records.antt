@@ -24,10 +24,10 @@ use Rattle.laws.proofs.Demand3.{answers-is, plain-public}
 use Rattle.coff.specs.Import.{typeNumber}
 use Rattle.names.specs.Built.{nameOf}
 use Rattle.names.specs.Rename.{Renamed}
-use Rattle.names.specs.Search.{placeOf}
+use Rattle.search.specs.Search.{placeOf}
 use Rattle.names.specs.declared.rename.Replaced.{Replaced}
-use Rattle.names.specs.declared.search.Place.the-variants as Place
-use Rattle.names.proofs.Searches.{place-at, place-nowhere}
+use Rattle.search.specs.declared.Place.the-variants as Place
+use Rattle.search.proofs.Searches.{place-at, place-nowhere}
 use Rattle.plans.specs.Shape.{sourceOf, shaped}
 use Rattle.plans.specs.Keys.{keyAt, lastIn}
 use Rattle.plans.specs.declared.Shape.{Shape}

@@ -3,8 +3,8 @@
 use coff::import::ImportNameType;
 use coff::import::ImportType;
 use coff::machines::Machine;
+use layout::places::ENTRY_SIZE;
 use members::extents;
-use members::layouts::ENTRY_SIZE;
 ghost use mathlib.Core.Path.{_≡_};
 ghost use mathlib.Core.List.{[], _∷_, _++_};
 ghost use Prim.Native.Nat.{_+_, _≤_, _<_};

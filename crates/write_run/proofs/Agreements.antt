@@ -9,7 +9,7 @@ use native.Mathlib.Omega.{arith}
 use borrow.Author.Tests.{ne-eqb}
 use Rattle.wire.specs.Bytes.{Bytes, same}
 use Rattle.wire.proofs.Bytes.{same-eq}
-use Rattle.names.proofs.Searches.{take-rest}
+use Rattle.search.proofs.Searches.{take-rest}
 use Rattle.format.specs.Library.{Options, memberSet}
 use Rattle.format.specs.Refusals.{checkAll}
 use Rattle.format.specs.Answers.{written, outputAfter, total, leaves}

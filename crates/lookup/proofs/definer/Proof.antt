@@ -2,7 +2,7 @@
 use Prim.Native.Nat.{_-_, _≤_}
 use mathlib.Core.Path.{_≡_, refl, sym, ap, _∙_}
 use native.Mathlib.Omega.{arith}
-use Rattle.names.specs.Search.{placeOf}
+use Rattle.search.specs.Search.{placeOf}
 use Rattle.lookup.specs.Numbered.{definerFrom}
 use Rattle.lookup.proofs.Numbering.{defines-at, definer-here, definer-later, definer-end}
 use borrow.Author.Needs.{needs}

@@ -6,8 +6,8 @@ use lib.ListN.{length}
 use Rattle.wire.specs.Bytes.{Bytes}
 use Rattle.wire.proofs.Writes.{wrote-as, wrote-length}
 use Rattle.format.specs.Layouts.{descriptorBytes, descriptorSymbolsAt, encode, descriptorName, nullName, thunkName, compatStem, stringsAt}
-use Rattle.members.specs.Members.{descriptorData, descriptorSymbols}
-use Rattle.members.proofs.Runs.{_⊕_, headed, parts-as, table}
+use Rattle.layout.specs.Runs.{descriptorData, descriptorSymbols}
+use Rattle.layout.proofs.Runs.{_⊕_, headed, parts-as, table}
 use Rattle.members.proofs.Sizes.{stem-within, null-at, thunk-at, size-descriptor}
 use borrow.Author.Needs.{needs}
 use Rattle.members.proofs.create_import_descriptor.Statement.{statement}

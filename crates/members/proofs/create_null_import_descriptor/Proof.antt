@@ -1,7 +1,7 @@
 -- `members::create_null_import_descriptor` meets its contract.
 use Rattle.wire.proofs.Writes.{wrote-length}
 use Rattle.format.specs.Layouts.{nullDescriptorBytes, nullSymbolsAt, encode, nullName, compatStem}
-use Rattle.members.proofs.Runs.{one, _⊕_, headed, table}
+use Rattle.layout.proofs.Runs.{one, _⊕_, headed, table}
 use Rattle.members.proofs.Sizes.{size-null}
 use borrow.Author.Needs.{needs}
 use Rattle.members.proofs.create_null_import_descriptor.Statement.{statement}

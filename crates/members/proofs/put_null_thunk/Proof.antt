@@ -1,7 +1,7 @@
 -- `members::put_null_thunk` meets its contract.
 use Rattle.wire.proofs.Writes.{wrote-length}
 use Rattle.format.specs.Layouts.{nullThunkBytes, thunkSymbolsAt}
-use Rattle.members.proofs.Runs.{one, _⊕_, headed, table}
+use Rattle.layout.proofs.Runs.{one, _⊕_, headed, table}
 use Rattle.members.proofs.Sizes.{size-thunk}
 use borrow.Author.Needs.{needs}
 use Rattle.members.proofs.put_null_thunk.Statement.{statement}

@@ -3,7 +3,7 @@ use Prim.Native.Nat.{ℕ}
 use mathlib.Core.Path.{ap}
 use Rattle.wire.proofs.Writes.{_⨾_, wrote-as, wrote-length}
 use Rattle.format.specs.Layouts.{importHeader}
-use Rattle.members.proofs.Runs.{_⊞_}
+use Rattle.layout.proofs.Runs.{_⊞_}
 use Rattle.members.proofs.Sizes.{size-exported}
 use borrow.Author.Needs.{needs}
 use Rattle.members.proofs.put_short_as.Statement.{statement}

@@ -2,8 +2,8 @@
 use mathlib.Core.Path.{ap}
 use Rattle.wire.proofs.Writes.{wrote-length}
 use Rattle.format.specs.Layouts.{weakBytes}
-use Rattle.members.specs.Members.{weakSymbols}
-use Rattle.members.proofs.Runs.{one, _⊕_, parts-as, table}
+use Rattle.layout.specs.Runs.{weakSymbols}
+use Rattle.layout.proofs.Runs.{one, _⊕_, parts-as, table}
 use Rattle.members.proofs.Sizes.{alias-at, size-weak}
 use borrow.Author.Needs.{needs}
 use Rattle.members.proofs.put_weak_external.Statement.{statement}

@@ -1,7 +1,7 @@
 -- `reader::read` meets its contract.
 use mathlib.Core.Path.{sym, ap, _∙_}
 use Rattle.format.specs.Reader.{ordinary}
-use Rattle.coff.specs.declared.records.FileHeader.{FileHeader}
+use Rattle.records.specs.declared.FileHeader.{FileHeader}
 use Rattle.reader.proofs.Admitting.{ordinary-known, ordinary-unknown}
 use Rattle.reader.proofs.Guessing.{answer-short, answer-object, read-barred, read-shorter}
 use borrow.Author.Needs.{needs}

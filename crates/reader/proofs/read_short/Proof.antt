@@ -6,7 +6,7 @@ use lib.ListN.{length}
 use Rattle.wire.proofs.Bytes.{not-true, not-false}
 use Rattle.reader.specs.Answers.{answer}
 use Rattle.reader.proofs.Answering.{barred}
-use Rattle.reader.proofs.Admitting.{length-text}
+use Rattle.finds.proofs.Texts.{length-text}
 use Rattle.reader.proofs.Guessing.{short-plain-guessed, short-as-guessed, short-types-barred}
 use borrow.Author.Needs.{needs}
 use Rattle.reader.proofs.read_short.Statement.{statement}

@@ -4,7 +4,7 @@ use native.Mathlib.Omega.{arith}
 use borrow.Author.Needs.{needs}
 use Rattle.wire.proofs.Bytes.{not-true, not-false}
 use Rattle.laws.proofs.Names.{find-within}
-use Rattle.names.proofs.Searches.{place-at, place-nowhere}
+use Rattle.search.proofs.Searches.{place-at, place-nowhere}
 use Rattle.names.proofs.Manglings.{demangles-dropped, demangles-plain, demangles-untagged, demangles-last, demangles-cut}
 use Rattle.names.proofs.mangler.get_arm64ec_demangled_function_name.Statement.{statement}
 use Rattle.names.proofs.mangler.get_arm64ec_demangled_function_name.Tie as tie

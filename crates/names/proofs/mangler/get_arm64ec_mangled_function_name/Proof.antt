@@ -2,7 +2,7 @@
 use mathlib.Core.Path.{refl, sym, _∙_}
 use borrow.Author.Needs.{needs}
 use Rattle.wire.proofs.Bytes.{not-true, not-false}
-use Rattle.names.proofs.Searches.{place-at, place-nowhere}
+use Rattle.search.proofs.Searches.{place-at, place-nowhere}
 use Rattle.names.proofs.Manglings.{mangling-by, mangling-tagged, mangling-untagged}
 use Rattle.names.proofs.mangler.get_arm64ec_mangled_function_name.Statement.{statement}
 use Rattle.names.proofs.mangler.get_arm64ec_mangled_function_name.Tie as tie

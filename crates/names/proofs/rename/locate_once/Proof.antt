@@ -3,7 +3,7 @@ use lib.ListN.{length-drop}
 use native.Mathlib.Omega.{arith}
 use borrow.Author.Needs.{needs}
 use Rattle.laws.proofs.Names.{find-within}
-use Rattle.names.proofs.Searches.{find-rest, find-rest-none}
+use Rattle.search.proofs.Searches.{find-rest, find-rest-none}
 use Rattle.names.proofs.Renamings.{located-at, located-nowhere}
 use Rattle.names.proofs.rename.locate_once.Statement.{statement}
 use Rattle.names.proofs.rename.locate_once.Tie as tie

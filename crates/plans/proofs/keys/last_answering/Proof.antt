@@ -3,7 +3,7 @@ use borrow.Author.Needs.{needs}
 use Prim.Native.Nat.{_-_, _≤_}
 use mathlib.Core.Path.{_≡_, refl, sym, ap, _∙_}
 use native.Mathlib.Omega.{arith}
-use Rattle.names.specs.Search.{placeOf}
+use Rattle.search.specs.Search.{placeOf}
 use Rattle.lists.proofs.Records.{held}
 use Rattle.plans.specs.Keys.{keyAt, lastIn}
 use Rattle.plans.proofs.Answering.{last-here, last-before, last-none}

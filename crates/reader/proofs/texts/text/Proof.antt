@@ -1,7 +1,8 @@
 -- `reader::texts::text` meets its contract.
 use native.Mathlib.Omega.{arith}
 use Rattle.wire.proofs.Parts.{length-before}
-use Rattle.reader.proofs.Admitting.{text-out, text-first}
+use Rattle.reader.proofs.Admitting.{text-first}
+use Rattle.finds.proofs.Texts.{text-out}
 use borrow.Author.Needs.{needs}
 use Rattle.reader.proofs.texts.text.Statement.{statement}
 use Rattle.reader.proofs.texts.text.Tie as tie

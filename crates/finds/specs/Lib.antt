@@ -1,0 +1,2 @@
+-- What is looked for.
+pub mod Finds

@@ -1,0 +1,80 @@
+-- Parts, strings and string tables, written one after the other.
+use Prim.Native.Nat.{ℕ, _+_}
+use mathlib.Core.Path.{_≡_, refl, sym, ap, _∙_}
+use mathlib.Core.List.{List, [], _∷_, _++_, append-nil, append-assoc}
+use lib.ListN.{length}
+use Rattle.wire.specs.Bytes.{Bytes, join, le32, zeros}
+use Rattle.wire.specs.Writes.{Wrote}
+use Rattle.wire.proofs.Writes.{_⨾_, wrote-as}
+use Rattle.format.specs.Layouts.{strings, stringsAt, stringTable, fileHeader}
+use Rattle.layout.specs.Runs.{Parts, Strings, Table}
+
+-- ---- parts
+
+pub join-append : (xs ys : List Bytes) → join (xs ++ ys) ≡ join xs ++ join ys
+unfolding join
+join-append [] ys = refl
+join-append (x ∷ xs) ys = ap (λ (t : Bytes). x ++ t) (join-append xs ys) ∙ sym (append-assoc x (join xs) (join ys))
+
+pub join-one : (x : Bytes) → join (x ∷ []) ≡ x
+unfolding join
+join-one x = append-nil x
+
+-- one part
+pub one : {l x l′ : Bytes} {at r : ℕ} → Wrote l at x l′ r → Parts l at (x ∷ []) l′ r
+one {x = x} w = record { wrote = wrote-as (sym (join-one x)) w }
+
+infixl 60 _⊕_
+-- parts after parts
+pub _⊕_ : {l l₁ l₂ : Bytes} {xs ys : List Bytes} {at r s : ℕ} → Parts l at xs l₁ r → Parts l₁ r ys l₂ s → Parts l at (xs ++ ys) l₂ s
+_⊕_ {xs = xs} {ys} v w = record { wrote = wrote-as (sym (join-append xs ys)) (v .wrote ⨾ w .wrote) }
+
+-- the same parts said in another way
+pub parts-as : {l l′ : Bytes} {xs ys : List Bytes} {at r : ℕ} → xs ≡ ys → Parts l at xs l′ r → Parts l at ys l′ r
+parts-as e w = record { wrote = wrote-as (ap join e) (w .wrote) }
+
+-- a header, whose characteristics are said in another way
+pub headed : {l l′ : Bytes} {at r k k′ : ℕ} (m n p s : ℕ) → k ≡ k′ → Wrote l at (fileHeader m n p s k) l′ r → Parts l at (fileHeader m n p s k′ ∷ []) l′ r
+headed m n p s e w = one (wrote-as (ap (fileHeader m n p s) e) w)
+
+-- ---- strings
+
+pub strings-append : (xs ys : List Bytes) → strings (xs ++ ys) ≡ strings xs ++ strings ys
+unfolding strings
+strings-append [] ys = refl
+strings-append (x ∷ xs) ys =
+    ap (λ (t : Bytes). x ++ (0 ∷ t)) (strings-append xs ys) ∙ sym (append-assoc x (0 ∷ strings xs) (strings ys))
+
+infixl 60 _⊞_
+-- strings after strings
+pub _⊞_ : {l l₁ l₂ : Bytes} {xs ys : List Bytes} {at r s : ℕ} → Strings l at xs l₁ r → Strings l₁ r ys l₂ s → Strings l at (xs ++ ys) l₂ s
+_⊞_ {xs = xs} {ys} v w = record { wrote = wrote-as (sym (strings-append xs ys)) (v .wrote ⨾ w .wrote) }
+
+-- a string and its NUL
+pub ended : {l l₁ l₂ x : Bytes} {at r s : ℕ} → Wrote l at x l₁ r → Wrote l₁ r (zeros 1) l₂ s → Strings l at (x ∷ []) l₂ s
+unfolding strings
+ended v w = record { wrote = v ⨾ w }
+
+-- a piece before the rest of a string
+pub before : {l l₁ l₂ h t : Bytes} {at r s : ℕ} → Wrote l at h l₁ r → Strings l₁ r (t ∷ []) l₂ s → Strings l at ((h ++ t) ∷ []) l₂ s
+unfolding strings
+before {h = h} {t} v w = record { wrote = wrote-as (sym (append-assoc h t (0 ∷ []))) (v ⨾ w .wrote) }
+
+-- the same string said in another way
+pub string-as : {l l′ x y : Bytes} {at r : ℕ} → x ≡ y → Strings l at (x ∷ []) l′ r → Strings l at (y ∷ []) l′ r
+string-as e w = record { wrote = wrote-as (ap (λ (x : Bytes). strings (x ∷ [])) e) (w .wrote) }
+
+-- a string as two parts
+pub string-parts : {l l′ x : Bytes} {at r : ℕ} → Strings l at (x ∷ []) l′ r → Parts l at (x ∷ zeros 1 ∷ []) l′ r
+unfolding strings join
+string-parts w = record { wrote = w .wrote }
+
+-- ---- string tables
+
+pub sized : {l l₁ l₂ : Bytes} {ss : List Bytes} {at r s : ℕ} (size : ℕ) → Wrote l at (le32 size) l₁ r → Strings l₁ r ss l₂ s → Table l at size ss l₂ s
+sized size v w = record { wrote = v ⨾ w .wrote }
+
+-- with the right size it is one part of a layout
+pub table : {l l′ : Bytes} {ss : List Bytes} {at r size : ℕ} → size ≡ stringsAt + length (strings ss) → Table l at size ss l′ r → Parts l at (stringTable ss ∷ []) l′ r
+unfolding stringTable
+table {ss = ss} e w = one (wrote-as (ap (λ (n : ℕ). le32 n ++ strings ss) e) (w .wrote))

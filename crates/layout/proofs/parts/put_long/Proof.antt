@@ -1,0 +1,28 @@
+-- `layout::parts::put_long` meets its contract.
+use mir.Syntax.{w16}
+use mir.Val.{toZ, ofZ}
+use mathlib.Core.Path.{_≡_, ap, _∙_}
+use lib.IntN.{ℤ}
+use Rattle.wire.specs.Bytes.{Bytes}
+use Rattle.wire.proofs.Writes.{wrote-as, wrote-length}
+use Rattle.format.specs.Layouts.{symbol, longName}
+use borrow.Author.Needs.{needs}
+use Rattle.layout.proofs.parts.put_long.Statement.{statement}
+use Rattle.layout.proofs.parts.put_long.Tie as tie
+
+returns : tie.Need-returns
+returns c =
+    let c₂ = c .before .before in
+    let c₁ = c₂ .before .before in
+    let s = c₁ .before .before in
+    let a = s .args in
+    let z = a .section-number in
+    let back : toZ w16 (ofZ w16 z) ≡ z = search needs in
+    wrote-as (ap (λ (n : Bytes). symbol n (toZ w16 (ofZ w16 z)) (a .storage-class) (a .number-of-aux-symbols)) (c₁ .long-name .ensures)
+    ∙ ap (λ (z : ℤ). symbol (longName (a .offset)) z (a .storage-class) (a .number-of-aux-symbols)) back)
+    (c₂ .write .ensures)
+
+pub put-long-spec : {M : Type 1} → statement M
+put-long-spec =
+    tie.close
+    (tie.spec (λ c κs. search needs) (λ c κs. search needs) (λ c. wrote-length (returns c)) returns)

@@ -1,0 +1,17 @@
+-- `layout::tables::put_pieces` meets its contract.
+use Rattle.wire.proofs.Writes.{wrote-length}
+use Rattle.layout.proofs.Runs.{before}
+use borrow.Author.Needs.{needs}
+use Rattle.layout.proofs.tables.put_pieces.Statement.{statement}
+use Rattle.layout.proofs.tables.put_pieces.Tie as tie
+
+returns : tie.Need-returns
+returns c =
+    let c₂ = c .before .before in
+    let c₁ = c₂ .before .before .before .before in
+    before (c₁ .put .ensures) (c₂ .put-string .ensures)
+
+pub put-pieces-spec : {M : Type 1} → statement M
+put-pieces-spec =
+    tie.close
+    (tie.spec (λ c κs. search needs) (λ c κs. search needs) (λ c. wrote-length (returns c .wrote)) returns)

@@ -1,0 +1,12 @@
+-- `records::Relocation::find` meets its contract.
+use Rattle.wire.proofs.Writes.{found-as}
+use borrow.Author.Needs.{needs}
+use Rattle.records.proofs.Relocation.find.Statement.{statement}
+use Rattle.records.proofs.Relocation.find.Tie as tie
+
+returns : tie.Need-returns
+returns c = found-as (c .before .before .bytes .ensures) (c .find .ensures)
+
+pub find-spec : {M : Type 1} → statement M
+find-spec = tie.close
+    (tie.spec (λ c κs. search needs) (λ c. search needs) (λ c κs. search needs) returns)

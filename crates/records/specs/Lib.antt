@@ -1,0 +1,2 @@
+-- The records as bytes and in bytes.
+pub mod Records

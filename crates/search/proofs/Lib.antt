@@ -1,0 +1,2 @@
+-- Laws of the search.
+pub mod Searches
