@@ -7,7 +7,8 @@ use Rattle.wire.specs.Bytes.{Bytes, join, le32, zeros}
 use Rattle.wire.specs.Writes.{Found}
 use Rattle.wire.proofs.Writes.{_⨟_, found-as}
 use Rattle.format.specs.Layouts.{strings, stringsAt, stringTable, fileHeader}
-use Rattle.layout.proofs.Runs.{join-append, join-one, strings-append}
+use Rattle.layout.proofs.Runs.{strings-append}
+use Rattle.wire.proofs.Bytes.{join-append, join-one}
 use Rattle.finds.specs.Finds.{Parts, Strings, Table}
 
 -- ---- parts

@@ -19,8 +19,7 @@ use layout::places::NULL_SYMBOLS_AT;
 use layout::places::WEAK_SYMBOLS;
 use layout::tables::IMPORT_DESCRIPTOR_PREFIX;
 use layout::tables::NUL;
-use layout::tables::NULL_THUNK_DATA_PREFIX;
-use layout::tables::NULL_THUNK_DATA_SUFFIX;
+use layout::tables::NULL_THUNK_DATA;
 use layout::tables::STRINGS_AT;
 use layout::widths;
 use records::FileHeader;
@@ -54,11 +53,7 @@ pub fn find_import_descriptor(
     let dll_size = dll.len() + NUL;
     let null_at = STRINGS_AT + IMPORT_DESCRIPTOR_PREFIX.len() + stem.len() + NUL;
     let thunk_at = null_at + null_len + NUL;
-    let size = thunk_at
-        + NULL_THUNK_DATA_PREFIX.len()
-        + stem.len()
-        + NULL_THUNK_DATA_SUFFIX.len()
-        + NUL;
+    let size = thunk_at + NULL_THUNK_DATA + stem.len() + NUL;
     let header = FileHeader {
         machine: machine.number,
         number_of_sections: 2,
@@ -129,11 +124,7 @@ fn find_thunk_of(s: &[u8], machine: Machine, slot: u32, alignment: u32, stem: &[
     requires { ⌜ length (now stem) ≤ 255 ⌝ }
     ensures { λ r. ⌜ Found (now (s .entry)) 0 (nullThunkBytes (machine .number) slot alignment (thunkName (now (stem .entry)))) r ⌝ }
 {
-    let size = (STRINGS_AT
-        + NULL_THUNK_DATA_PREFIX.len()
-        + stem.len()
-        + NULL_THUNK_DATA_SUFFIX.len()
-        + NUL) as u32;
+    let size = (STRINGS_AT + NULL_THUNK_DATA + stem.len() + NUL) as u32;
     let characteristics = alignment
         + IMAGE_SCN_CNT_INITIALIZED_DATA
         + IMAGE_SCN_MEM_READ

@@ -27,7 +27,7 @@ use records::Relocation;
 use records::Section;
 use records::Symbol;
 ghost use Rattle.wire.specs.Writes.{Found};
-ghost use Rattle.format.specs.Layouts.{symbol, longName};
+ghost use Rattle.format.specs.Layouts.{stringsAt, symbol, longName};
 ghost use Rattle.layout.specs.Runs.{descriptorSections, relocations, descriptorData, descriptorSymbols, weakSymbols};
 ghost use Rattle.finds.specs.Finds.{Parts};
 
@@ -107,7 +107,7 @@ pub fn find_descriptor_data(s: &[u8], at: usize, typ: u16, dll: &[u8]) -> usize
 
 // The symbols, by where the null name and the thunk's name stand in the string table.
 pub fn find_descriptor_symbols(s: &[u8], at: usize, null_at: u32, thunk_at: u32) -> usize
-    ensures { λ r. ⌜ Parts (now (s .entry)) at (descriptorSymbols «null_at» «thunk_at») r ⌝ }
+    ensures { λ r. ⌜ Parts (now (s .entry)) at (descriptorSymbols stringsAt «null_at» «thunk_at») r ⌝ }
 {
     let a = find_long(
         s,
@@ -163,7 +163,7 @@ pub fn find_descriptor_symbols(s: &[u8], at: usize, null_at: u32, thunk_at: u32)
 
 // The symbols, by where the alias stands in the string table.
 pub fn find_weak_symbols(s: &[u8], at: usize, alias_at: u32) -> usize
-    ensures { λ r. ⌜ Parts (now (s .entry)) at (weakSymbols «alias_at») r ⌝ }
+    ensures { λ r. ⌜ Parts (now (s .entry)) at (weakSymbols stringsAt «alias_at») r ⌝ }
 {
     let aux = records::auxiliary(TARGET, IMAGE_WEAK_EXTERN_SEARCH_ALIAS);
     let a = Symbol {

@@ -3,7 +3,7 @@
 use layout::places::DATA_AT_1;
 use layout::places::DATA_AT_2;
 use layout::places::NULL_SYMBOLS_AT;
-use layout::places::WEAK_SYMBOLS;
+use layout::places::WEAK_SYMBOLS_SIZE;
 use layout::tables::IMPORT_DESCRIPTOR_PREFIX;
 use layout::tables::NUL;
 use layout::tables::NULL_IMPORT_DESCRIPTOR_SYMBOL_NAME;
@@ -29,7 +29,7 @@ pub const NULL_STRINGS_AT: usize = NULL_SYMBOLS_AT + Symbol::SIZE + STRINGS_AT;
 
 pub const THUNK_STRINGS_AT: usize = DATA_AT_2 + Symbol::SIZE + STRINGS_AT;
 
-pub const WEAK_STRINGS_AT: usize = DATA_AT_1 + (WEAK_SYMBOLS as usize) * Symbol::SIZE + STRINGS_AT;
+pub const WEAK_STRINGS_AT: usize = DATA_AT_1 + WEAK_SYMBOLS_SIZE + STRINGS_AT;
 
 pub const SYMBOL_AT: usize = ImportObjectHeader::SIZE;
 

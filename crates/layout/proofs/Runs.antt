@@ -1,24 +1,17 @@
 -- Parts, strings and string tables, written one after the other.
 use Prim.Native.Nat.{ℕ, _+_}
 use mathlib.Core.Path.{_≡_, refl, sym, ap, _∙_}
-use mathlib.Core.List.{List, [], _∷_, _++_, append-nil, append-assoc}
-use lib.ListN.{length}
+use mathlib.Core.List.{List, [], _∷_, _++_, append-assoc}
+use lib.ListN.{length, take, drop, take-append-drop}
+use lib.Seq.{drop-append-add, drop-append-seam}
 use Rattle.wire.specs.Bytes.{Bytes, join, le32, zeros}
-use Rattle.wire.specs.Writes.{Wrote}
-use Rattle.wire.proofs.Writes.{_⨾_, wrote-as}
+use Rattle.wire.specs.Writes.{stop, Wrote}
+use Rattle.wire.proofs.Bytes.{join-append, join-one}
+use Rattle.wire.proofs.Writes.{_⨾_, behind, wrote-as}
 use Rattle.format.specs.Layouts.{strings, stringsAt, stringTable, fileHeader}
-use Rattle.layout.specs.Runs.{Parts, Strings, Table}
+use Rattle.layout.specs.Runs.{Parts, Strings, Table, beginsAt}
 
 -- ---- parts
-
-pub join-append : (xs ys : List Bytes) → join (xs ++ ys) ≡ join xs ++ join ys
-unfolding join
-join-append [] ys = refl
-join-append (x ∷ xs) ys = ap (λ (t : Bytes). x ++ t) (join-append xs ys) ∙ sym (append-assoc x (join xs) (join ys))
-
-pub join-one : (x : Bytes) → join (x ∷ []) ≡ x
-unfolding join
-join-one x = append-nil x
 
 -- one part
 pub one : {l x l′ : Bytes} {at r : ℕ} → Wrote l at x l′ r → Parts l at (x ∷ []) l′ r
@@ -28,6 +21,12 @@ infixl 60 _⊕_
 -- parts after parts
 pub _⊕_ : {l l₁ l₂ : Bytes} {xs ys : List Bytes} {at r s : ℕ} → Parts l at xs l₁ r → Parts l₁ r ys l₂ s → Parts l at (xs ++ ys) l₂ s
 _⊕_ {xs = xs} {ys} v w = record { wrote = wrote-as (sym (join-append xs ys)) (v .wrote ⨾ w .wrote) }
+
+-- parts before parts that were written first
+pub behind-parts : {l l₁ l₂ : Bytes} {xs ys : List Bytes} {at m n r s : ℕ} → length (join xs) ≡ n → m ≡ stop at n (length l) → Parts l m ys l₁ r → Parts l₁ at xs l₂ s
+    → Parts l at (xs ++ ys) l₂ r
+behind-parts {l} {xs = xs} {ys} {at} k e v w =
+    record { wrote = wrote-as (sym (join-append xs ys)) (behind (e ∙ ap (λ (n : ℕ). stop at n (length l)) (sym k)) (v .wrote) (w .wrote)) }
 
 -- the same parts said in another way
 pub parts-as : {l l′ : Bytes} {xs ys : List Bytes} {at r : ℕ} → xs ≡ ys → Parts l at xs l′ r → Parts l at ys l′ r
@@ -71,10 +70,19 @@ string-parts w = record { wrote = w .wrote }
 
 -- ---- string tables
 
-pub sized : {l l₁ l₂ : Bytes} {ss : List Bytes} {at r s : ℕ} (size : ℕ) → Wrote l at (le32 size) l₁ r → Strings l₁ r ss l₂ s → Table l at size ss l₂ s
-sized size v w = record { wrote = v ⨾ w .wrote }
-
--- with the right size it is one part of a layout
-pub table : {l l′ : Bytes} {ss : List Bytes} {at r size : ℕ} → size ≡ stringsAt + length (strings ss) → Table l at size ss l′ r → Parts l at (stringTable ss ∷ []) l′ r
+-- strings after their size
+pub table : {l l₁ l₂ : Bytes} {ss : List Bytes} {at r s : ℕ} (size : ℕ) → size ≡ stringsAt + length (strings ss) → Wrote l at (le32 size) l₁ r → Strings l₁ r ss l₂ s → Table l at ss l₂ s
 unfolding stringTable
-table {ss = ss} e w = one (wrote-as (ap (λ (n : ℕ). le32 n ++ strings ss) e) (w .wrote))
+table {ss = ss} size e v w = record { wrote = wrote-as (ap (λ (n : ℕ). le32 n ++ strings ss) e) (v ⨾ w .wrote) }
+
+-- it is one part of a layout
+pub table-part : {l l′ : Bytes} {ss : List Bytes} {at r : ℕ} → Table l at ss l′ r → Parts l at (stringTable ss ∷ []) l′ r
+table-part w = one (w .wrote)
+
+-- at the place where a string begins the table has it, and those after it
+pub begins-there : (ss : List Bytes) (n : ℕ) → drop (beginsAt ss n) (stringTable ss) ≡ strings (drop n ss)
+unfolding stringTable
+begins-there ss n =
+    let k = length (strings (take n ss)) in
+    let both : strings ss ≡ strings (take n ss) ++ strings (drop n ss) = ap strings (sym (take-append-drop n ss)) ∙ strings-append (take n ss) (drop n ss) in
+    drop-append-add (le32 (stringsAt + length (strings ss))) (strings ss) k ∙ ap (drop k) both ∙ drop-append-seam (strings (take n ss)) (strings (drop n ss))

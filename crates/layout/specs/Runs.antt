@@ -1,10 +1,12 @@
 -- What the functions write: parts of a layout one after the other, strings and string tables.
-use Prim.Native.Nat.{ℕ}
+use Prim.Native.Nat.{ℕ, _+_}
+use mathlib.Core.Bool.{Bool}
 use mathlib.Core.List.{List, [], _∷_, _++_}
+use lib.ListN.{length, take}
 use lib.IntN.{pos}
-use Rattle.wire.specs.Bytes.{Bytes, ascii, le32, zeros, join}
+use Rattle.wire.specs.Bytes.{Bytes, ascii, zeros, join}
 use Rattle.wire.specs.Writes.{Wrote}
-use Rattle.format.specs.Layouts.{importDescriptorSize, IMAGE-SCN-ALIGN-2BYTES, IMAGE-SCN-ALIGN-4BYTES, IMAGE-SYM-UNDEFINED, IMAGE-SYM-ABSOLUTE, IMAGE-SYM-CLASS-NULL, IMAGE-SYM-CLASS-EXTERNAL, IMAGE-SYM-CLASS-STATIC, IMAGE-SYM-CLASS-SECTION, IMAGE-SYM-CLASS-WEAK-EXTERNAL, IMAGE-WEAK-EXTERN-SEARCH-ALIAS, section, reloc, symbol, importDescriptor, originalFirstThunkField, nameField, firstThunkField, longName, auxiliary, strings, stringsAt, dataAt, idata, relocationsAt, dllAt}
+use Rattle.format.specs.Layouts.{importDescriptorSize, IMAGE-SCN-ALIGN-2BYTES, IMAGE-SCN-ALIGN-4BYTES, IMAGE-SYM-UNDEFINED, IMAGE-SYM-ABSOLUTE, IMAGE-SYM-CLASS-NULL, IMAGE-SYM-CLASS-EXTERNAL, IMAGE-SYM-CLASS-STATIC, IMAGE-SYM-CLASS-SECTION, IMAGE-SYM-CLASS-WEAK-EXTERNAL, IMAGE-WEAK-EXTERN-SEARCH-ALIAS, section, reloc, symbol, importDescriptor, originalFirstThunkField, nameField, firstThunkField, longName, auxiliary, strings, stringsAt, stringTable, descriptorName, nullName, thunkName, compatStem, dataAt, idata, relocationsAt, dllAt}
 
 -- ---- what was written over l from a place on, which left l′, and r is the next place
 
@@ -16,9 +18,23 @@ pub record Parts (l : Bytes) (at : ℕ) (parts : List Bytes) (l′ : Bytes) (r :
 pub record Strings (l : Bytes) (at : ℕ) (ss : List Bytes) (l′ : Bytes) (r : ℕ) : Type 0 where
   pub wrote : Wrote l at (strings ss) l′ r
 
--- strings with NUL after a size, which need not be theirs
-pub record Table (l : Bytes) (at size : ℕ) (ss : List Bytes) (l′ : Bytes) (r : ℕ) : Type 0 where
-  pub wrote : Wrote l at (le32 size ++ strings ss) l′ r
+-- a string table
+pub record Table (l : Bytes) (at : ℕ) (ss : List Bytes) (l′ : Bytes) (r : ℕ) : Type 0 where
+  pub wrote : Wrote l at (stringTable ss) l′ r
+
+-- ---- string tables
+
+-- where a string begins in the table of all: after n others, and the size
+abbrev pub beginsAt : List Bytes → ℕ → ℕ
+beginsAt ss n = stringsAt + length (strings (take n ss))
+
+-- the strings of an import descriptor, by its stem
+abbrev pub descriptorStrings : Bool → Bytes → List Bytes
+descriptorStrings compat s = descriptorName s ∷ nullName (compatStem compat s) ∷ thunkName s ∷ []
+
+-- the strings of a weak external, which begin alike
+abbrev pub weakStrings : Bytes → Bytes → Bytes → List Bytes
+weakStrings prefix target alias = (prefix ++ target) ∷ (prefix ++ alias) ∷ []
 
 -- ---- the import descriptor
 
@@ -41,10 +57,10 @@ relocations type =
 abbrev pub descriptorData : ℕ → Bytes → List Bytes
 descriptorData type dll = importDescriptor ∷ (relocations type ++ (dll ∷ zeros 1 ∷ []))
 
--- its symbols, by where the null name and the thunk's name stand in the string table
-abbrev pub descriptorSymbols : ℕ → ℕ → List Bytes
-descriptorSymbols nullAt thunkAt =
-    symbol (longName stringsAt) (pos 1) IMAGE-SYM-CLASS-EXTERNAL 0
+-- its symbols, by where its own name, the null name and the thunk's name begin in the string table
+abbrev pub descriptorSymbols : ℕ → ℕ → ℕ → List Bytes
+descriptorSymbols nameAt nullAt thunkAt =
+    symbol (longName nameAt) (pos 1) IMAGE-SYM-CLASS-EXTERNAL 0
     ∷ symbol (ascii ".idata$2") (pos 1) IMAGE-SYM-CLASS-SECTION 0
     ∷ symbol (ascii ".idata$6") (pos 2) IMAGE-SYM-CLASS-STATIC 0
     ∷ symbol (ascii ".idata$4") IMAGE-SYM-UNDEFINED IMAGE-SYM-CLASS-SECTION 0
@@ -55,12 +71,12 @@ descriptorSymbols nullAt thunkAt =
 
 -- ---- the weak external
 
--- its symbols, by where the alias stands in the string table
-abbrev pub weakSymbols : ℕ → List Bytes
-weakSymbols aliasAt =
+-- its symbols, by where the target and the alias begin in the string table
+abbrev pub weakSymbols : ℕ → ℕ → List Bytes
+weakSymbols targetAt aliasAt =
     symbol (ascii "@comp.id") IMAGE-SYM-ABSOLUTE IMAGE-SYM-CLASS-STATIC 0
     ∷ symbol (ascii "@feat.00") IMAGE-SYM-ABSOLUTE IMAGE-SYM-CLASS-STATIC 0
-    ∷ symbol (longName stringsAt) IMAGE-SYM-UNDEFINED IMAGE-SYM-CLASS-EXTERNAL 0
+    ∷ symbol (longName targetAt) IMAGE-SYM-UNDEFINED IMAGE-SYM-CLASS-EXTERNAL 0
     ∷ symbol (longName aliasAt) IMAGE-SYM-UNDEFINED IMAGE-SYM-CLASS-WEAK-EXTERNAL 1
     ∷ symbol (auxiliary 2 IMAGE-WEAK-EXTERN-SEARCH-ALIAS) IMAGE-SYM-UNDEFINED IMAGE-SYM-CLASS-NULL 0
     ∷ []

@@ -8,7 +8,6 @@ use crate::places::NUMBER_OF_RELOCATIONS;
 use crate::places::RELOCATIONS_AT;
 use crate::places::SECOND_SECTION;
 use crate::tables;
-use crate::tables::STRINGS_AT;
 use coff::constants::IMAGE_SYM_ABSOLUTE;
 use coff::constants::IMAGE_SYM_CLASS_EXTERNAL;
 use coff::constants::IMAGE_SYM_CLASS_NULL;
@@ -108,18 +107,17 @@ pub fn put_descriptor_data(out: &mut [u8], at: usize, typ: u16, dll: &[u8]) -> u
     tables::put_string(out, b, dll)
 }
 
-// The symbols, by where the null name and the thunk's name stand in the string table.
-pub fn put_descriptor_symbols(out: &mut [u8], at: usize, null_at: u32, thunk_at: u32) -> usize
-    ensures { λ r. ⌜ Parts (now (out .entry)) at (descriptorSymbols «null_at» «thunk_at») (now (out .exit)) r ⌝ }
+// The symbols, by where its own name, the null name and the thunk's name begin in the string table.
+pub fn put_descriptor_symbols(
+    out: &mut [u8],
+    at: usize,
+    name_at: u32,
+    null_at: u32,
+    thunk_at: u32,
+) -> usize
+    ensures { λ r. ⌜ Parts (now (out .entry)) at (descriptorSymbols «name_at» «null_at» «thunk_at») (now (out .exit)) r ⌝ }
 {
-    let a = put_long(
-        out,
-        at,
-        STRINGS_AT as u32,
-        FIRST_SECTION,
-        IMAGE_SYM_CLASS_EXTERNAL,
-        0,
-    );
+    let a = put_long(out, at, name_at, FIRST_SECTION, IMAGE_SYM_CLASS_EXTERNAL, 0);
     let b = Symbol {
         name: *b".idata$2",
         section_number: FIRST_SECTION,
@@ -164,9 +162,9 @@ pub fn put_descriptor_symbols(out: &mut [u8], at: usize, null_at: u32, thunk_at:
 
 // ---- the weak external
 
-// The symbols, by where the alias stands in the string table.
-pub fn put_weak_symbols(out: &mut [u8], at: usize, alias_at: u32) -> usize
-    ensures { λ r. ⌜ Parts (now (out .entry)) at (weakSymbols «alias_at») (now (out .exit)) r ⌝ }
+// The symbols, by where the target and the alias begin in the string table.
+pub fn put_weak_symbols(out: &mut [u8], at: usize, target_at: u32, alias_at: u32) -> usize
+    ensures { λ r. ⌜ Parts (now (out .entry)) at (weakSymbols «target_at» «alias_at») (now (out .exit)) r ⌝ }
 {
     let aux = records::auxiliary(TARGET, IMAGE_WEAK_EXTERN_SEARCH_ALIAS);
     let a = Symbol {
@@ -184,7 +182,7 @@ pub fn put_weak_symbols(out: &mut [u8], at: usize, alias_at: u32) -> usize
     let c = put_long(
         out,
         b,
-        STRINGS_AT as u32,
+        target_at,
         IMAGE_SYM_UNDEFINED,
         IMAGE_SYM_CLASS_EXTERNAL,
         0,

@@ -10,6 +10,7 @@ use records::FileHeader;
 use records::ImportDescriptor;
 use records::Relocation;
 use records::Section;
+use records::Symbol;
 
 // ---- counts
 
@@ -17,6 +18,11 @@ use records::Section;
 pub const DESCRIPTOR_SYMBOLS: u32 = 7;
 
 pub const WEAK_SYMBOLS: u32 = 5;
+
+// How many bytes they are.
+pub const DESCRIPTOR_SYMBOLS_SIZE: usize = (DESCRIPTOR_SYMBOLS as usize) * Symbol::SIZE;
+
+pub const WEAK_SYMBOLS_SIZE: usize = (WEAK_SYMBOLS as usize) * Symbol::SIZE;
 
 // The relocations of an import descriptor.
 pub const NUMBER_OF_RELOCATIONS: u16 = 3;

@@ -8,7 +8,7 @@ use lib.Seq.{drop-drop, take-all}
 use lib.Dec.{eqb}
 use borrow.Author.Tests.{eq-eqb, ne-eqb}
 use Rattle.wire.specs.Bytes.{Bytes, part, holds}
-use Rattle.wire.proofs.Bytes.{not-true, holds-take, holds-drop}
+use Rattle.wire.proofs.Bytes.{not-true, holds-inside}
 use Rattle.format.specs.Exports.{namesAt, namesLength, bothCounts, offsetOf, lengthOf, fieldAt, absentAt, bytesAt, stringAt, exportAt}
 use Rattle.format.specs.Plan.{base}
 use Rattle.format.specs.Refusals.{checkList}
@@ -34,7 +34,7 @@ pub clean-part : (b : Bytes) (from o n : ℕ) → true ≡ isClean b → from �
 unfolding part
 clean-part b from o n c e =
     let names = drop (namesAt b) b in
-    rw (e, ← drop-drop o (namesAt b) b) (holds-take 0 n (drop o names) (holds-drop 0 o names (not-true (holds 0 names) (sym c))))
+    rw (e, ← drop-drop o (namesAt b) b) (holds-inside 0 names o n (not-true (holds 0 names) (sym c)))
 
 pub clean-names : (b : Bytes) (at n : ℕ) (r : Bool) → Shaped b → at ≡ namesAt b → n ≡ namesLength b → r ≡ holds 0 (part b at n) → not r ≡ isClean b
 unfolding part

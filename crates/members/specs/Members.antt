@@ -9,7 +9,6 @@ use Rattle.format.specs.Names.{stem}
 use Rattle.format.specs.Library.{imp}
 use Rattle.format.specs.Layouts.{Member, weak, strings, importHeader}
 
-
 -- a name is the stem of a DLL's
 abbrev pub IsStem : Bytes → Bytes → Type 0
 IsStem s dll = s ≡ stem dll

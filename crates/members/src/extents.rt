@@ -5,10 +5,10 @@ use coff::import::ImportNameType;
 use coff::machines::Machine;
 use layout::places::DATA_AT_1;
 use layout::places::DATA_AT_2;
-use layout::places::DESCRIPTOR_SYMBOLS;
+use layout::places::DESCRIPTOR_SYMBOLS_SIZE;
 use layout::places::DLL_AT;
 use layout::places::NULL_SYMBOLS_AT;
-use layout::places::WEAK_SYMBOLS;
+use layout::places::WEAK_SYMBOLS_SIZE;
 use layout::tables;
 use layout::tables::IMPORT_DESCRIPTOR_PREFIX;
 use layout::tables::NUL;
@@ -29,7 +29,7 @@ ghost use Rattle.members.specs.Members.{IsStem, weakOf};
 // What each member has beside its names: the records, the head of the string table, the NULs, and what its names begin or end
 // with. The name of a null import descriptor is counted by its own function.
 const DESCRIPTOR: usize = DLL_AT
-    + (DESCRIPTOR_SYMBOLS as usize) * Symbol::SIZE
+    + DESCRIPTOR_SYMBOLS_SIZE
     + STRINGS_AT
     + IMPORT_DESCRIPTOR_PREFIX.len()
     + NULL_THUNK_DATA
@@ -41,7 +41,7 @@ const NULL_THUNK: usize = DATA_AT_2 + Symbol::SIZE + STRINGS_AT + NULL_THUNK_DAT
 
 const SHORT: usize = ImportObjectHeader::SIZE + 2 * NUL;
 
-const WEAK: usize = DATA_AT_1 + (WEAK_SYMBOLS as usize) * Symbol::SIZE + STRINGS_AT + 2 * NUL;
+const WEAK: usize = DATA_AT_1 + WEAK_SYMBOLS_SIZE + STRINGS_AT + 2 * NUL;
 
 // An import descriptor, by the DLL name and its stem.
 pub fn descriptor_size(dll: &[u8], stem: &[u8], compat: bool) -> usize

@@ -1,5 +1,6 @@
 // The five members of an import library, written: a port of ObjectFactory of coff_import_file.rs. Each is one function, in the
-// order of its bytes: header, sections, data, symbols, strings. A name is copied to its place and nowhere else.
+// order of its bytes: header, sections, data, symbols, strings; but where symbols name more than one string, the strings are
+// written first, since what writes them answers where each begins. A name is copied to its place and nowhere else.
 pub mod extents; // extents.rt: how many bytes each member has
 
 use coff::constants::IMAGE_SCN_CNT_INITIALIZED_DATA;
@@ -13,17 +14,16 @@ use layout::parts;
 use layout::places::DATA_AT_1;
 use layout::places::DATA_AT_2;
 use layout::places::DESCRIPTOR_SYMBOLS;
+use layout::places::DESCRIPTOR_SYMBOLS_SIZE;
 use layout::places::DLL_AT;
 use layout::places::DRECTVE;
 use layout::places::FIRST_SECTION;
 use layout::places::IDATA_4BYTES;
 use layout::places::NULL_SYMBOLS_AT;
 use layout::places::WEAK_SYMBOLS;
+use layout::places::WEAK_SYMBOLS_SIZE;
 use layout::tables;
-use layout::tables::IMPORT_DESCRIPTOR_PREFIX;
 use layout::tables::NUL;
-use layout::tables::NULL_THUNK_DATA_PREFIX;
-use layout::tables::NULL_THUNK_DATA_SUFFIX;
 use layout::tables::STRINGS_AT;
 use layout::widths;
 use records::FileHeader;
@@ -63,15 +63,7 @@ pub fn create_import_descriptor(
     requires { ⌜ IsStem (now stem) (now dll) ⌝ }
     ensures { λ r. ⌜ Wrote (now (out .entry)) at (encode (descriptor (machine .number) (now (dll .entry)) compat)) (now (out .exit)) r ⌝ }
 {
-    let null_len = tables::null_name_len(stem, compat);
     let dll_size = dll.len() + NUL;
-    let null_at = STRINGS_AT + IMPORT_DESCRIPTOR_PREFIX.len() + stem.len() + NUL;
-    let thunk_at = null_at + null_len + NUL;
-    let size = thunk_at
-        + NULL_THUNK_DATA_PREFIX.len()
-        + stem.len()
-        + NULL_THUNK_DATA_SUFFIX.len()
-        + NUL;
     let header = FileHeader {
         machine: machine.number,
         number_of_sections: 2,
@@ -80,14 +72,13 @@ pub fn create_import_descriptor(
         characteristics: widths::characteristics(machine),
     };
     let dll_size = dll_size as u32;
-    let null_at = null_at as u32;
-    let thunk_at = thunk_at as u32;
-    let size = size as u32;
     let a = header.write(out, at);
     let b = parts::put_descriptor_sections(out, a, dll_size);
     let c = parts::put_descriptor_data(out, b, machine.relocation, dll);
-    let d = parts::put_descriptor_symbols(out, c, null_at, thunk_at);
-    tables::put_descriptor_table(out, d, size, stem, compat)
+    let d = wire::stop(c, DESCRIPTOR_SYMBOLS_SIZE, out.len());
+    let table = tables::put_descriptor_table(out, d, stem, compat);
+    parts::put_descriptor_symbols(out, c, table.name_at, table.null_at, table.thunk_at);
+    table.next
 }
 
 // A null import descriptor, which ends the imports of a DLL.
@@ -102,7 +93,6 @@ pub fn create_null_import_descriptor(
     requires { ⌜ length (now stem) ≤ 255 ⌝ }
     ensures { λ r. ⌜ Wrote (now (out .entry)) at (encode (nullDescriptor (machine .number) (compatStem compat (now (stem .entry))))) (now (out .exit)) r ⌝ }
 {
-    let size = (STRINGS_AT + tables::null_name_len(stem, compat) + NUL) as u32;
     let a = FileHeader {
         machine: machine.number,
         number_of_sections: 1,
@@ -127,7 +117,7 @@ pub fn create_null_import_descriptor(
         IMAGE_SYM_CLASS_EXTERNAL,
         0,
     );
-    tables::put_null_table(out, d, size, stem, compat)
+    tables::put_null_table(out, d, stem, compat)
 }
 
 // A null thunk, which ends the import lookup and address tables.
@@ -155,11 +145,6 @@ fn put_null_thunk(
     requires { ⌜ length (now stem) ≤ 255 ⌝ }
     ensures { λ r. ⌜ Wrote (now (out .entry)) at (nullThunkBytes (machine .number) slot alignment (thunkName (now (stem .entry)))) (now (out .exit)) r ⌝ }
 {
-    let size = (STRINGS_AT
-        + NULL_THUNK_DATA_PREFIX.len()
-        + stem.len()
-        + NULL_THUNK_DATA_SUFFIX.len()
-        + NUL) as u32;
     let characteristics = alignment
         + IMAGE_SCN_CNT_INITIALIZED_DATA
         + IMAGE_SCN_MEM_READ
@@ -198,7 +183,7 @@ fn put_null_thunk(
         IMAGE_SYM_CLASS_EXTERNAL,
         0,
     );
-    tables::put_thunk_table(out, f, size, stem)
+    tables::put_thunk_table(out, f, stem)
 }
 
 // A short import. The export string, of two pieces, is written only for NameExportas.
@@ -308,9 +293,6 @@ fn put_weak_external(
     requires { ⌜ (length (now sym) ≤ 65536) × (length (now weak) ≤ 65536) ⌝ }
     ensures { λ r. ⌜ Wrote (now (out .entry)) at (weakBytes machine (now (prefix .entry) ++ now (sym .entry)) (now (prefix .entry) ++ now (weak .entry))) (now (out .exit)) r ⌝ }
 {
-    let alias_at = STRINGS_AT + prefix.len() + sym.len() + NUL;
-    let size = (alias_at + prefix.len() + weak.len() + NUL) as u32;
-    let alias_at = alias_at as u32;
     let a = FileHeader {
         machine,
         number_of_sections: 1,
@@ -326,6 +308,8 @@ fn put_weak_external(
         number_of_relocations: 0,
         characteristics: DRECTVE,
     }.write(out, a);
-    let c = parts::put_weak_symbols(out, b, alias_at);
-    tables::put_weak_table(out, c, size, prefix, sym, weak)
+    let c = wire::stop(b, WEAK_SYMBOLS_SIZE, out.len());
+    let table = tables::put_weak_table(out, c, prefix, sym, weak);
+    parts::put_weak_symbols(out, b, table.target_at, table.alias_at);
+    table.next
 }

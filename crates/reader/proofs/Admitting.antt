@@ -11,7 +11,7 @@ use borrow.Author.Tests.{eq-eqb, ne-eqb, le-leb, lt-leb}
 use Rattle.wire.specs.Bytes.{Bytes, if_then_else_, holds, before, part}
 use Rattle.wire.specs.Writes as W
 use Rattle.wire.proofs.Writes.{found-there, found-none, found-as}
-use Rattle.wire.proofs.Bytes.{and-first, holds-drop, holds-take}
+use Rattle.wire.proofs.Bytes.{and-first}
 use Rattle.wire.proofs.Parts.{part-last, length-before, take-before, before-free, part-before}
 use Rattle.format.specs.Machines.{known, hybrid, arm64x}
 use Rattle.format.specs.Names.{barredDll}
@@ -35,13 +35,9 @@ unfolding textAt
 text-first {rest} b at n h e l f =
     f ∙ ap (part rest 0) l ∙ part-before 0 rest ∙ ap (before 0) (e ∙ part-last b at (length b - at) (omega arith))
 
--- it and a part of it hold no NUL
+-- it holds no NUL
 pub clear-as : {s : Bytes} (b : Bytes) (at : ℕ) → s ≡ textAt b at → Clear s
 clear-as b at e = ap (holds 0) e ∙ text-clear b at
-
-pub part-clear : (s : Bytes) (at n : ℕ) → Clear s → Clear (part s at n)
-unfolding part
-part-clear s at n e = holds-take 0 n (drop at s) (holds-drop 0 at s e)
 
 -- ---- names
 

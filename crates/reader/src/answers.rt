@@ -11,7 +11,7 @@ use finds::tables::THUNK_STRINGS_AT;
 use finds::tables::WEAK_STRINGS_AT;
 use format::Read;
 use format::Span;
-use layout::places::DESCRIPTOR_SYMBOLS;
+use layout::places::DESCRIPTOR_SYMBOLS_SIZE;
 use layout::places::DLL_AT;
 use layout::tables::IMPORT_DESCRIPTOR_PREFIX;
 use layout::tables::NUL;
@@ -19,7 +19,6 @@ use layout::tables::NULL_IMPORT_DESCRIPTOR_SYMBOL_NAME_PREFIX;
 use layout::tables::NULL_THUNK_DATA_PREFIX;
 use layout::tables::STRINGS_AT;
 use layout::widths;
-use records::Symbol;
 ghost use Prim.Native.Nat.{_+_, _/_, _%_, _≤_};
 ghost use mathlib.Core.Path.{_≡_};
 ghost use mathlib.Core.Bool.{true};
@@ -42,7 +41,7 @@ pub const REFUSED: Read = Read::Refused {
 const MAX_WEAK: usize = 8195;
 
 // Where the stem of an import descriptor stands, after its DLL name with NUL, and that of a null import descriptor.
-const DESCRIPTOR_STEM_AT: usize = (DESCRIPTOR_SYMBOLS as usize) * Symbol::SIZE
+const DESCRIPTOR_STEM_AT: usize = DESCRIPTOR_SYMBOLS_SIZE
     + STRINGS_AT
     + IMPORT_DESCRIPTOR_PREFIX.len();
 

@@ -13,7 +13,7 @@ use Rattle.format.specs.Names.{stem}
 use Rattle.format.specs.Layouts.{Member, descriptor, nullDescriptor, nullThunk, compatStem, encode}
 use Rattle.format.specs.Library.{entrySize, directory}
 use Rattle.laws.proofs.Totals.{length-directory}
-use Rattle.layout.proofs.Runs.{join-append}
+use Rattle.wire.proofs.Bytes.{join-append}
 use Rattle.walks.specs.Pen.{Room, Drew, Noted, fixedOf}
 
 -- ---- directories, one after another

@@ -2,8 +2,9 @@
 use mathlib.Core.Path.{sym, ap, _∙_}
 use native.Mathlib.Omega.{arith}
 use Rattle.wire.specs.Bytes.{holds}
+use Rattle.wire.proofs.Bytes.{holds-inside}
 use Rattle.reader.specs.Answers.{answer}
-use Rattle.reader.proofs.Admitting.{clear-as, part-clear}
+use Rattle.reader.proofs.Admitting.{clear-as}
 use Rattle.reader.proofs.Guessing.{null-plain-guessed, null-of-guessed, null-barred, part-rest}
 use borrow.Author.Needs.{needs}
 use Rattle.reader.proofs.read_null_descriptor.Statement.{statement}
@@ -27,7 +28,7 @@ as-null-descriptor-of-requires : tie.Need-as-null-descriptor-of-requires
 as-null-descriptor-of-requires c κs =
     let c₅ = c .before .before .before .before .before in
     let c₇ = c₅ .before .before in
-    (c₇ .pre .0, ap (holds 0) (c .part .ensures) ∙ part-clear _ _ _ (clear-as _ _ (c₅ .text .ensures)))
+    (c₇ .pre .0, ap (holds 0) (c .part .ensures) ∙ holds-inside 0 _ _ _ (clear-as _ _ (c₅ .text .ensures)))
 
 returns-3 : tie.Need-returns-3
 returns-3 c =

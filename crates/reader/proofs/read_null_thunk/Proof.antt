@@ -2,8 +2,9 @@
 use mathlib.Core.Path.{ap, _∙_}
 use native.Mathlib.Omega.{arith}
 use Rattle.wire.specs.Bytes.{holds}
+use Rattle.wire.proofs.Bytes.{holds-inside}
 use Rattle.reader.specs.Answers.{answer}
-use Rattle.reader.proofs.Admitting.{clear-as, part-clear}
+use Rattle.reader.proofs.Admitting.{clear-as}
 use Rattle.reader.proofs.Guessing.{thunk-guessed, thunk-barred}
 use borrow.Author.Needs.{needs}
 use Rattle.reader.proofs.read_null_thunk.Statement.{statement}
@@ -17,7 +18,7 @@ returns c =
 as-null-thunk-requires : tie.Need-as-null-thunk-requires
 as-null-thunk-requires c κs =
     let c₅ = c .before .before .before .before .before in
-    (c₅ .pre .0, ap (holds 0) (c .part .ensures) ∙ part-clear _ _ _ (clear-as _ _ (c .before .before .text .ensures)))
+    (c₅ .pre .0, ap (holds 0) (c .part .ensures) ∙ holds-inside 0 _ _ _ (clear-as _ _ (c .before .before .text .ensures)))
 
 returns-2 : tie.Need-returns-2
 returns-2 c =

@@ -7,7 +7,8 @@ use Rattle.wire.specs.Bytes.{Bytes}
 use Rattle.wire.proofs.Writes.{found-as}
 use Rattle.format.specs.Layouts.{descriptorBytes, descriptorSymbolsAt, encode, descriptorName, nullName, thunkName, compatStem, stringsAt}
 use Rattle.layout.specs.Runs.{descriptorData, descriptorSymbols}
-use Rattle.members.proofs.Sizes.{stem-within, null-at, thunk-at, size-descriptor}
+use Rattle.members.proofs.Sizes.{stem-within}
+use Rattle.layout.proofs.Sizes.{null-at, thunk-at, size-descriptor}
 use Rattle.finds.proofs.Runs.{_⊕_, headed, parts-as, table}
 use borrow.Author.Needs.{needs}
 use Rattle.finds.proofs.layouts.find_import_descriptor.Statement.{statement}
@@ -24,12 +25,6 @@ add-size-2 c =
 
 add-size-3 : tie.Need-add-size-3
 add-size-3 c =
-    let p = c .before .before .before .before .pre in
-    let h = stem-within _ (p .1 .1) (p .1 .0) in
-    omega (arith, h, c .null-name-len .ensures .1)
-
-add-size-4 : tie.Need-add-size-4
-add-size-4 c =
     let p = c .before .before .before .before .pre in
     let h = stem-within _ (p .1 .1) (p .1 .0) in
     omega (arith, h, c .null-name-len .ensures .1)
@@ -71,8 +66,8 @@ returns c =
     let e = c₁ .null-name-len .ensures .0 in
     let p = s .pre in
     let filled = parts-as (ap (λ (t : ℕ). descriptorData t d) (p .0 .relocation)) (c₅ .find-descriptor-data .ensures) in
-    let symbols = parts-as (ap (λ (i : ℕ). descriptorSymbols i (stringsAt + 20 + length k + 1 + q + 1)) (null-at k)
-    ∙ ap (descriptorSymbols (stringsAt + (length (descriptorName k) + 1))) (thunk-at q k n e)) (c₆ .find-descriptor-symbols .ensures) in
+    let symbols = parts-as (ap (λ (i : ℕ). descriptorSymbols stringsAt i (stringsAt + 20 + length k + 1 + q + 1)) (null-at k)
+    ∙ ap (descriptorSymbols stringsAt (stringsAt + (length (descriptorName k) + 1))) (thunk-at q k n e)) (c₆ .find-descriptor-symbols .ensures) in
     let strings = table (size-descriptor q k n e) (c .find-descriptor-table .ensures) in
     let whole = (headed m 2 (descriptorSymbolsAt d) 7 (c₂ .characteristics .ensures) (c₃ .find .ensures)
     ⊕ c₄ .find-descriptor-sections .ensures
@@ -85,6 +80,6 @@ pub find-import-descriptor-spec : {M : Type 1} → statement M
 find-import-descriptor-spec =
     tie.close
     (tie.spec null-name-len-requires (λ c. search needs) (λ c. search needs) (λ c. search needs) (λ c. search needs)
-    (λ c. search needs) (λ c. search needs) (λ c. search needs) add-size-2 add-size-3 add-size-4 (λ c. search needs)
+    (λ c. search needs) (λ c. search needs) (λ c. search needs) add-size-2 add-size-3 (λ c. search needs)
     (λ c. search needs) (λ c κs. search needs) (λ c. search needs) cast-null-at cast-thunk-at cast-size (λ c κs. search needs)
     (λ c κs. search needs) (λ c κs. search needs) (λ c κs. search needs) (λ c κs. search needs) returns)

@@ -1,6 +1,6 @@
 -- `finds::layouts::find_null_import_descriptor` meets its contract.
 use Rattle.format.specs.Layouts.{nullDescriptorBytes, nullSymbolsAt, encode, nullName, compatStem}
-use Rattle.members.proofs.Sizes.{size-null}
+use Rattle.layout.proofs.Sizes.{size-null}
 use Rattle.finds.proofs.Runs.{one, _⊕_, headed, table}
 use borrow.Author.Needs.{needs}
 use Rattle.finds.proofs.layouts.find_null_import_descriptor.Statement.{statement}

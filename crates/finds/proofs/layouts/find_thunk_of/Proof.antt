@@ -1,6 +1,6 @@
 -- `finds::layouts::find_thunk_of` meets its contract.
 use Rattle.format.specs.Layouts.{nullThunkBytes, thunkSymbolsAt}
-use Rattle.members.proofs.Sizes.{size-thunk}
+use Rattle.layout.proofs.Sizes.{size-thunk}
 use Rattle.finds.proofs.Runs.{one, _⊕_, headed, table}
 use borrow.Author.Needs.{needs}
 use Rattle.finds.proofs.layouts.find_thunk_of.Statement.{statement}
@@ -29,7 +29,7 @@ returns c =
 pub find-thunk-of-spec : {M : Type 1} → statement M
 find-thunk-of-spec =
     tie.close
-    (tie.spec (λ c. search needs) (λ c. search needs) (λ c. search needs) (λ c. search needs) (λ c. search needs)
+    (tie.spec (λ c. search needs) (λ c. search needs) (λ c. search needs) (λ c. search needs)
     (λ c. search needs) (λ c. search needs) (λ c. search needs) (λ c. search needs) (λ c. search needs) (λ c. search needs)
     (λ c κs. search needs) (λ c κs. search needs) (λ c. search needs) (λ c κs. search needs) (λ c κs. search needs)
     (λ c κs. search needs) (λ c κs. search needs) (λ c. search needs) (λ c κs. search needs) (λ c κs. search needs) returns)

@@ -1,6 +1,6 @@
 -- `finds::layouts::find_weak_external` meets its contract.
 use mathlib.Core.Path.{ap}
-use Rattle.format.specs.Layouts.{weakBytes, encode}
+use Rattle.format.specs.Layouts.{stringsAt, weakBytes, encode}
 use Rattle.layout.specs.Runs.{weakSymbols}
 use Rattle.finds.proofs.Runs.{one, _⊕_, parts-as, table}
 use Rattle.finds.proofs.Sizes.{alias-at, size-weak}
@@ -18,7 +18,7 @@ returns c =
     let t = s .args .target .now in
     (one (c₁ .find .ensures)
     ⊕ one (c₂ .find2 .ensures)
-    ⊕ parts-as (ap weakSymbols (alias-at t)) (c₃ .find-weak-symbols .ensures)
+    ⊕ parts-as (ap (weakSymbols stringsAt) (alias-at t)) (c₃ .find-weak-symbols .ensures)
     ⊕ table (size-weak t (s .args .alias .now)) (c .find-weak-table .ensures)) .found
 
 pub find-weak-external-spec : {M : Type 1} → statement M

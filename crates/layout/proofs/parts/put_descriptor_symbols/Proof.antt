@@ -25,5 +25,5 @@ returns c =
 pub put-descriptor-symbols-spec : {M : Type 1} → statement M
 put-descriptor-symbols-spec =
     tie.close
-    (tie.spec (λ c. search needs) (λ c κs. search needs) (λ c κs. search needs) (λ c κs. search needs) (λ c κs. search needs)
+    (tie.spec (λ c κs. search needs) (λ c κs. search needs) (λ c κs. search needs) (λ c κs. search needs)
     (λ c κs. search needs) (λ c κs. search needs) (λ c κs. search needs) (λ c. wrote-length (returns c .wrote)) returns)

@@ -23,5 +23,5 @@ returns c =
 pub put-weak-symbols-spec : {M : Type 1} → statement M
 put-weak-symbols-spec =
     tie.close
-    (tie.spec (λ c κs. search needs) (λ c κs. search needs) (λ c κs. search needs) (λ c. search needs) (λ c κs. search needs)
+    (tie.spec (λ c κs. search needs) (λ c κs. search needs) (λ c κs. search needs) (λ c κs. search needs)
     (λ c κs. search needs) (λ c κs. search needs) (λ c. wrote-length (returns c .wrote)) returns)

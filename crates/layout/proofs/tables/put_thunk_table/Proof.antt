@@ -1,6 +1,7 @@
 -- `layout::tables::put_thunk_table` meets its contract.
 use Rattle.wire.proofs.Writes.{wrote-length}
-use Rattle.layout.proofs.Runs.{sized}
+use Rattle.layout.proofs.Runs.{table}
+use Rattle.layout.proofs.Sizes.{size-thunk}
 use borrow.Author.Needs.{needs}
 use Rattle.layout.proofs.tables.put_thunk_table.Statement.{statement}
 use Rattle.layout.proofs.tables.put_thunk_table.Tie as tie
@@ -9,9 +10,10 @@ returns : tie.Need-returns
 returns c =
     let c₂ = c .before .before in
     let c₁ = c₂ .before .before .before .before in
-    sized _ (c₁ .put-u32 .ensures) (c₂ .put-thunk-name .ensures)
+    table _ (size-thunk _) (c₁ .put-u32 .ensures) (c₂ .put-thunk-name .ensures)
 
 pub put-thunk-table-spec : {M : Type 1} → statement M
 put-thunk-table-spec =
     tie.close
-    (tie.spec (λ c κs. search needs) (λ c κs. search needs) (λ c. wrote-length (returns c .wrote)) returns)
+    (tie.spec (λ c. search needs) (λ c. search needs) (λ c. search needs) (λ c. search needs) (λ c κs. search needs)
+    (λ c κs. search needs) (λ c. wrote-length (returns c .wrote)) returns)
