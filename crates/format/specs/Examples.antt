@@ -26,6 +26,7 @@ use Rattle.format.specs.Lookup as Lookup
 use Rattle.format.specs.Lookup.{lookup}
 use Rattle.format.specs.Demands as Demands
 use Rattle.format.specs.Demands.{Where, leads, nowhere, notFound, byOrdinal, byName, meaning}
+use Rattle.format.specs.Private.{no-more, private-right, same-next, Alike}
 use Rattle.format.specs.declared.Checked.the-variants.{Fine, Refused}
 use Rattle.format.specs.declared.Read.the-variants.{ShortImport}
 use Rattle.format.specs.declared.Read.the-variants as R
@@ -390,3 +391,18 @@ table = (
   refl,
   refl,
 )
+
+-- private records before and behind, one of the same name, and one in the native list: the names differ, and the lists are alike
+pub hidden : Alike (on amd64) (list (named "a" 5 0 ∷ [])) (lists (named "t" 9 4 ∷ named "a" 5 0 ∷ named "a" 7 5 ∷ []) (named "u" 0 4 ∷ []))
+unfolding Bytes.opened Machines.opened Exports.opened Names.opened Plan.opened Refusals.opened
+hidden =
+    record {
+      accepted = (refl, refl);
+      dll = refl;
+      first =
+          private-right refl
+          (same-next
+          (record { name = refl; extName = refl; symbolName = refl; importName = refl; exportAs = refl; ordinal = refl; flags = refl })
+          (private-right refl no-more));
+      native = private-right refl no-more;
+    }

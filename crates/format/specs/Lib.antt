@@ -10,4 +10,5 @@ pub mod Reader
 pub mod Lookup
 pub mod Answers
 pub mod Demands
+pub mod Private
 pub mod Examples

@@ -12,3 +12,4 @@ pub mod Leads
 pub mod Asks
 pub mod Definers
 pub mod Demand3
+pub mod Private

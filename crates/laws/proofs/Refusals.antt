@@ -16,14 +16,14 @@ use Rattle.format.specs.Exports.{Export, noname}
 use Rattle.format.specs.Names.{hash, question, underscore, at-sign, plainType, tagged, demangle}
 use Rattle.format.specs.Plan.{Plan, plain, deferred, refused, Choice, typed, later, base, kind, publicName, ecCode, free, choose, chooseNamed, chooseImport, exporting, mangled, planChoice, planPublic, plan}
 use Rattle.format.specs.Library.{Options}
-use Rattle.format.specs.Refusals.{Row, earliest, allRows, checkAll}
+use Rattle.format.specs.Refusals.{Row, earliest, acceptRows, roomRows, allRows, checkExports, checkAll}
 use Rattle.format.specs.Answers.{total, written, leaves, outputAfter}
 use Rattle.format.specs.Demands.{Earliest, given-here, given-later, NoneGiven, no-row, not-this, Demand1}
 use Rattle.format.specs.declared.Checked.{Checked}
 use Rattle.format.specs.declared.Checked.the-variants.{Fine, Refused}
 use Rattle.format.specs.declared.Written.{Written}
 use Rattle.format.specs.declared.Written.the-variants as W
-use Rattle.format.proofs.Rows.{earliest-given, earliest-passed, fine-row, fine-rest}
+use Rattle.format.proofs.Rows.{earliest-given, earliest-passed, earliest-append, andThen-goes-on, fine-row, fine-rest}
 
 -- ---- `earliest` answers by the earliest row that is given, and is Fine exactly where none is
 
@@ -62,6 +62,11 @@ given-or-none rs = pick (earliest rs) refl
     pick : (c : Checked) → earliest rs ≡ c → Given rs ⊎ NoneGiven rs
     pick Fine e = inr (is-none rs e)
     pick (Refused n p) e = inl (record { number = n; place = p; first = is-earliest rs n p e })
+
+-- an accepted list is refused for want of room alone
+pub accepted-room : (o : Options) (b : Bytes) (room : ℕ) → checkExports o b ≡ Fine → checkAll o b room ≡ earliest (roomRows o b room)
+unfolding checkAll checkExports allRows
+accepted-room o b room e = earliest-append (acceptRows o b) (roomRows o b room) ∙ andThen-goes-on _ _ e
 
 -- ---- demand 1: the definitions of the writer's answer and output meet it, and nothing else does
 

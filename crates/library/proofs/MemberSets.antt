@@ -16,13 +16,14 @@ use Rattle.format.specs.Machines.{firstMachine, nativeMachine}
 use Rattle.format.specs.Exports.{firstCount, nativeCount, bothCounts, namesAt, dllField, offsetOf, lengthOf, bytesAt, dllName, exportsFrom, firstExports, nativeExports}
 use Rattle.format.specs.Layouts.{Member, encode}
 use Rattle.format.specs.Library.{Options, setHeaderSize, firstMemberAt, directory, membersOf, fixedMembers, firstMembers, nativeMembers, allMembers, setBytes, memberSet}
-use Rattle.format.specs.Refusals.{Row, row, earliest, machineRows, listRows, exportRows, acceptRows, roomRows, allRows, checkList, checkExports, checkAll}
+use Rattle.format.specs.Refusals.{Row, row, earliest, acceptRows, roomRows, allRows, checkList, checkExports, checkAll}
 use Rattle.format.specs.Answers.{total, written, leaves, outputAfter}
 use Rattle.format.specs.declared.Checked.the-variants.{Fine, Refused}
 use Rattle.format.specs.declared.Written.the-variants as W
-use Rattle.format.proofs.Rows.{fine-before, fine-after, earliest-given, earliest-passed, earliest-none, earliest-append, andThen-stops, andThen-goes-on}
+use Rattle.format.proofs.Rows.{earliest-given, earliest-passed, earliest-none, earliest-append, andThen-stops}
 use Rattle.format.proofs.Listed.{listed, dll-few, dll-inside}
 use Rattle.laws.proofs.Accepted.{accepted}
+use Rattle.laws.proofs.Refusals.{accepted-room}
 use Rattle.laws.proofs.Totals.{first-few, native-few, members-small, length-directory, length-setBytes}
 use Rattle.walks.specs.Pen.{Room, Drew, fixedOf}
 use Rattle.library.specs.Sets.{membersBy, DrewBy, DrewAll, farthest, Measured, headerBytes}
@@ -137,10 +138,6 @@ module _ (n out : Bytes) (e : n ≡ []) where
 
 -- ---- an accepted list
 
-pub list-accepted : (o : Options) (b : Bytes) → checkExports o b ≡ Fine → checkList b ≡ Fine
-unfolding checkExports acceptRows checkList
-list-accepted o b e = fine-after (machineRows (o .machine)) (listRows b) (fine-before (machineRows (o .machine) ++ listRows b) (exportRows o b) e)
-
 zero-more : (n : ℕ) → n ≡ 0 + n
 zero-more n = omega arith
 
@@ -221,8 +218,8 @@ module _ (o : Options) (b out : Bytes) where
 
   module _ (e : checkExports o b ≡ Fine) where
     last-row : checkAll o b (length out) ≡ earliest (room-row ∷ [])
-    unfolding checkAll allRows checkExports roomRows
-    last-row = earliest-append (acceptRows o b) (roomRows o b (length out)) ∙ andThen-goes-on _ _ e
+    unfolding roomRows
+    last-row = accepted-room o b (length out) e
 
     pub written-15 : length out < length (memberSet o b) → (W.Refused 15 0 ≡ written o b (length out)) × (out ≡ outputAfter o b out)
     unfolding written outputAfter total leaves

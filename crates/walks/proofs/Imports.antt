@@ -1,28 +1,26 @@
 -- The short imports and aliases of a record, by what the functions are told.
 use Prim.Native.Nat.{ℕ, _+_, _-_, _≤_}
-use mathlib.Core.Path.{_≡_, refl, sym, ap, _∙_}
+use mathlib.Core.Path.{_≡_, sym, ap, _∙_}
 use mathlib.Core.Bool.{Bool, true, false}
 use mathlib.Core.Option.{Option, none, some, Option·getD}
 use mathlib.Core.List.{List, [], _∷_, _++_, append-nil}
 use native.Mathlib.Omega.{arith}
-use lib.Dec.{eqb}
 use lib.ListN.{length, take, drop}
-use borrow.Author.Tests.{eq-eqb, ne-eqb, eqb-true}
+use borrow.Author.Tests.{eq-eqb, ne-eqb}
 use Rattle.wire.specs.Bytes.{Bytes, if_then_else_, part}
-use Rattle.wire.proofs.Bytes.{and-first}
 use Rattle.wire.proofs.Parts.{part-last}
 use Rattle.format.specs.Names.{hash, demangle}
-use Rattle.format.specs.Exports.{Export, fieldAt, offsetOf, lengthOf, absentAt, bytesAt, stringAt, exportAt}
+use Rattle.format.specs.Exports.{Export, fieldAt, bytesAt, exportAt}
 use Rattle.format.specs.Plan.{kind}
 use Rattle.format.specs.Layouts.{Member, short}
 use Rattle.format.specs.Library.{aliasMembers}
+use Rattle.format.proofs.Strings.{string-getD}
 use Rattle.names.specs.Mangler.{Demangles, demangledOf}
 use Rattle.names.specs.declared.mangler.Demangled.{Demangled}
 use Rattle.names.specs.declared.mangler.Demangled.the-variants.{Dropped, Cut, Fails}
 use Rattle.plans.specs.Shape.{sourceOf}
 use Rattle.plans.specs.declared.Source.{Source}
 use Rattle.plans.specs.declared.Source.the-variants as S
-use Rattle.plans.proofs.Choices.{string-some, string-none}
 use Rattle.members.specs.Members.{weakOf}
 use Rattle.walks.specs.Pen.{Room, Drew}
 use Rattle.walks.specs.Walk.{importOf}
@@ -76,15 +74,6 @@ module _ (s : Bytes) (r : Demangled) (d : Demangles s r) where
       ap (λ (o : Option Bytes). Option·getD o []) none-is
 
 -- ---- the export string by where it comes from
-
--- a string that is absent is empty
-pub string-getD : (b : Bytes) (at : ℕ) → Option·getD (stringAt b at) [] ≡ bytesAt b at
-unfolding absentAt bytesAt part
-string-getD b at = pick (absentAt b at) refl
-  where
-    pick : (t : Bool) → absentAt b at ≡ t → Option·getD (stringAt b at) [] ≡ bytesAt b at
-    pick true e = rw (string-none b at e, eqb-true (lengthOf b at) 0 (and-first (eqb (lengthOf b at) 0) (eqb (offsetOf b at) 0) e))
-    pick false e = rw (string-some b at e)
 
 module _ (b : Bytes) (k : ℕ) (p : Bytes) (x : Source) where
   pub source-nothing : x ≡ S.Nothing → [] ≡ sourceOf (exportAt b k) p x

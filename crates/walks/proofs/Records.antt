@@ -18,6 +18,7 @@ use Rattle.format.specs.Plan as P
 use Rattle.format.specs.Plan.{Plan, base, kind, publicName, free, ecCode, choose, chooseNamed, chooseImport, exporting, mangled, planChoice, planPublic, plan}
 use Rattle.format.specs.Layouts.{Member, short, encode}
 use Rattle.format.specs.Library.{answersTo, final, lastAnswering, shortMember, aliasMembers, aliasOrShort, deferredMember, shorts, deferreds, membersOf}
+use Rattle.format.proofs.Strings.{string-getD}
 use Rattle.laws.proofs.Lengths.{length-encode-short}
 use Rattle.laws.proofs.Names.{At}
 use Rattle.laws.proofs.Demand3.{answers-is, plain-public}
@@ -38,7 +39,6 @@ use Rattle.plans.proofs.Answering.{last-answering-in}
 use Rattle.walks.specs.Pen.{Room, Drew}
 use Rattle.walks.specs.Walk.{importOf, direct, drawn, membersAt, membersIn, recordMembers, passMembers}
 use Rattle.walks.proofs.Pens.{room-as, room-sized, room-first, room-next, drew-as, drew-sized, drew-more}
-use Rattle.walks.proofs.Imports.{string-getD}
 
 -- ---- the import that an alias leads to
 

@@ -1,6 +1,7 @@
 -- `library::set::measure` meets its contract.
 use Rattle.wire.proofs.Parts.{octets}
-use Rattle.library.proofs.MemberSets.{list-accepted, far-room, room-at, all-at, drew-nothing}
+use Rattle.laws.proofs.Accepted.{list-accepted}
+use Rattle.library.proofs.MemberSets.{far-room, room-at, all-at, drew-nothing}
 use borrow.Author.Needs.{needs}
 use Rattle.library.proofs.set.measure.Statement.{statement}
 use Rattle.library.proofs.set.measure.Tie as tie

@@ -3,7 +3,8 @@ use Prim.Native.Nat.{ℕ, _+_, _-_, _≤_, _<_}
 use mathlib.Core.Path.{_≡_, _∙_}
 use native.Mathlib.Omega.{arith}
 use Rattle.wire.proofs.Parts.{octets}
-use Rattle.library.proofs.MemberSets.{list-accepted, room-at, all-at, after-nothing, drew-after-nothing, measured-small, measured-total, set-room, set-written, written-15, written-total}
+use Rattle.laws.proofs.Accepted.{list-accepted}
+use Rattle.library.proofs.MemberSets.{room-at, all-at, after-nothing, drew-after-nothing, measured-small, measured-total, set-room, set-written, written-15, written-total}
 use Rattle.wire.specs.Bytes.{Bytes}
 use Rattle.wire.specs.Writes.{Wrote}
 use Rattle.library.specs.Sets.{headerBytes}
