@@ -108,7 +108,7 @@ fn short_sample(machine: u32, types: u16) -> Option<Content<'static>> {
         (_, IMPORT_CONST) => b"f",
         _ => b"_att_step@8",
     };
-    let export: &[u8] = if kind == 1 { b"" } else { b"att" };
+    let export: &[u8] = if kind == 1 { b"a" } else { b"att" };
     (kind <= IMPORT_CONST).then_some(Content::ShortImport(Short {
         machine,
         ordinal: types * 0x0D03,
@@ -151,9 +151,9 @@ struct Names {
 fn grown(rng: &mut Rng, tally: &mut Tally) -> Result<(), Difference> {
     let names = Names {
         dll: dll_name(rng),
-        stem: name(rng, 1, LONGEST_DLL),
-        short: [1, 0].map(|shortest| name(rng, shortest, LONGEST_SHORT)),
-        weak: [1, 1].map(|shortest| name(rng, shortest, LONGEST_WEAK)),
+        stem: name(rng, LONGEST_DLL),
+        short: [(); 2].map(|()| name(rng, LONGEST_SHORT)),
+        weak: [(); 2].map(|()| name(rng, LONGEST_WEAK)),
     };
     let content = content(rng, &names);
     reads::judge_as(&content.encode(), Some(&content))?;
@@ -197,17 +197,17 @@ fn content<'a>(rng: &mut Rng, names: &'a Names) -> Content<'a> {
 }
 
 /// Any bytes but NUL, few as a rule.
-fn name(rng: &mut Rng, shortest: usize, longest: usize) -> Vec<u8> {
+fn name(rng: &mut Rng, longest: usize) -> Vec<u8> {
     let length = match rng.below(64) {
         0 => longest,
         1 => rng.below(longest) + 1,
-        _ => rng.below(20) + shortest,
+        _ => rng.below(20) + 1,
     };
     (0..length).map(|_| rng.below(255) as u8 + 1).collect()
 }
 
 fn dll_name(rng: &mut Rng) -> Vec<u8> {
-    let mut dll = name(rng, 1, LONGEST_DLL);
+    let mut dll = name(rng, LONGEST_DLL);
     for byte in &mut dll {
         if b"/\\:".contains(byte) || rng.one_in(6) {
             *byte = b'.';

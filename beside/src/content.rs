@@ -84,7 +84,7 @@ impl Short<'_> {
             && self.export.is_some() == (self.name_type == IMPORT_NAME_EXPORTAS)
             && self
                 .export
-                .is_none_or(|export| is_name(export, 0, LONGEST_SHORT))
+                .is_none_or(|export| is_name(export, 1, LONGEST_SHORT))
     }
 
     fn told(&self) -> Read {

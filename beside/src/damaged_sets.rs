@@ -116,7 +116,7 @@ fn samples() -> Vec<Vec<u8>> {
     let hybrid = [
         Record::new("f"),
         Record::new("?h$$hx"),
-        Record::new("#"),
+        Record::new("#").export_as("x"),
         Record::new("d").flags(DATA),
     ];
     let cases = [
@@ -148,7 +148,7 @@ fn unwritten(set: &[u8]) -> Result<Vec<u8>, Difference> {
             kind: 0,
             symbol,
             dll: b"b.dll",
-            export: (name_type == IMPORT_NAME_EXPORTAS).then_some(b""),
+            export: (name_type == IMPORT_NAME_EXPORTAS).then_some(b"x"),
         };
         Content::ShortImport(short).encode()
     };
@@ -162,6 +162,7 @@ fn unwritten(set: &[u8]) -> Result<Vec<u8>, Difference> {
         weak(b"e", b"__imp_aux_?ab"),
         short(ARM64EC, 3, b"?a$$hb"),
         short(ARM64EC, 2, b"?c$$h"),
+        short(ARM64EC, 2, b"#"),
         short(ARM64EC, 4, b"d$$hd"),
         short(I386, 3, b"?@f"),
     ];

@@ -1,11 +1,14 @@
 //! Where the library does otherwise than the Rust on purpose: the smallest inputs, with both answers.
 
+use std::fmt::Debug;
+
 use oracle::ask::{AMD64, ARM64EC, FIXED_MEMBERS, answer_list, import_alone, symbols};
 use oracle::imports::ShortImport;
-use oracle::list::DATA;
+use oracle::list::{DATA, NONAME};
 use oracle::set::lay_out;
 use oracle::{Answer, Case, Member, Options, Record};
 
+use crate::content::FIELDS;
 use crate::judge::{Difference, Question, same};
 use crate::layouts::members;
 use crate::library;
@@ -72,6 +75,12 @@ fn rows() -> Vec<Row> {
             Rust::Panic,
             12,
         ),
+        row(
+            "ARM64EC code #",
+            Case::new(ARM64EC, &[Record::new("#")]),
+            Rust::Members,
+            14,
+        ),
         row("DLL name x/a.dll", dll("x/a.dll"), Rust::Members, 10),
         row("DLL name x\\a.dll", dll("x\\a.dll"), Rust::Members, 10),
         row("DLL name x:a.dll", dll("x:a.dll"), Rust::Members, 10),
@@ -110,17 +119,53 @@ pub fn differences() -> Result<String, Difference> {
         hold(what, *rust, case)?;
         Question::of(case).judge(&Err(*refusal))?;
     }
+    hash_read()?;
+    hash_symbols()?;
     not_utf8()?;
     symbol_not_utf8()?;
-    Ok(format!("differences: {} kept", rows.len() + 2))
+    Ok(format!("differences: {} kept", rows.len() + 4))
 }
 
-fn told(what: &str, rust: Rust, here: &str) {
+fn told(what: &str, rust: impl Debug, here: &str) {
     println!("{what:<34} {:<14} {here}", format!("{rust:?}"));
 }
 
 fn hold(what: &str, wanted: Rust, case: &Case) -> Result<(), Difference> {
     same(what, wanted, Rust::of(case)).map_err(Difference)
+}
+
+/// The member that the Rust writes of `#` alone: its export string is empty.
+fn hash_read() -> Result<(), Difference> {
+    let what = "the Rust's member of #, read";
+    let member = the_import(Record::new("#"));
+    told(what, Rust::Members, "refusal 16");
+    let read = library::read(&member.bytes, &mut [0; FIELDS]);
+    same(what, Err((16, 0)), read).map_err(Difference)
+}
+
+/// The symbols of `#` alone where both write it: of the empty name there, of the name itself here.
+fn hash_symbols() -> Result<(), Difference> {
+    let what = "symbols of ARM64EC # by ordinal";
+    let record = Record::new("#").flags(NONAME).ordinal(7);
+    let theirs: [&[u8]; 4] = [b"__imp_", b"", b"__imp_aux_", b"#"];
+    let ours: [&[u8]; 4] = [b"__imp_#", b"#", b"__imp_aux_#", b"#"];
+    told(what, "__imp_", "\"__imp_#\"");
+    let listed = Some(theirs.map(<[u8]>::to_vec).to_vec());
+    same(what, listed, symbols(&the_import(record.clone()))).map_err(Difference)?;
+    let set = written(&Case::new(ARM64EC, &[record]))?;
+    let looked = |symbol: &[u8]| {
+        let mut fields = [0; 2];
+        library::lookup(&set, 1, symbol, &mut fields).map(|answer| (answer, fields[0]))
+    };
+    for symbol in theirs.into_iter().chain(ours) {
+        let wanted = if ours.contains(&symbol) {
+            (2, 7)
+        } else {
+            (0, 0)
+        };
+        same(what, Ok(wanted), looked(symbol)).map_err(Difference)?;
+    }
+    Ok(())
 }
 
 /// The set is that of another name with the byte in its place.
@@ -146,7 +191,7 @@ fn symbol_not_utf8() -> Result<(), Difference> {
     let case = Case::new(ARM64EC, &[named(vec![0xFF]).flags(DATA)]);
     let member = Member {
         bytes: last_member(&case)?,
-        ..some_import()
+        ..the_import(Record::new("a"))
     };
     told(what, Rust::Panic, "written");
     same(what, None, symbols(&member)).map_err(Difference)?;
@@ -154,17 +199,24 @@ fn symbol_not_utf8() -> Result<(), Difference> {
     same(what, Some(&[0xFF][..]), symbol).map_err(Difference)
 }
 
-/// The only member of a list's own, as the library writes it.
-fn last_member(case: &Case) -> Result<Vec<u8>, Difference> {
+/// The set of a list, as the library writes it.
+fn written(case: &Case) -> Result<Vec<u8>, Difference> {
     let mut set = vec![0; 1 << 12];
     let Question { list, options } = Question::of(case);
     let total = library::write(&list, options, &mut set)
         .map_err(|refusal| Difference(format!("{case:?} is refused {refusal:?}")))?;
-    let members = members(&set[..total], [1, 0]).map_err(Difference)?;
+    set.truncate(total);
+    Ok(set)
+}
+
+/// The only member of a list's own.
+fn last_member(case: &Case) -> Result<Vec<u8>, Difference> {
+    let set = written(case)?;
+    let members = members(&set, [1, 0]).map_err(Difference)?;
     Ok(members[FIXED_MEMBERS].to_vec())
 }
 
-/// A short import of the Rust, for its reader.
-fn some_import() -> Member {
-    import_alone(Record::new("a"), Options::of(ARM64EC)).expect("the Rust takes this name")
+/// The short import that the Rust writes of an ARM64EC export.
+fn the_import(record: Record) -> Member {
+    import_alone(record, Options::of(ARM64EC)).expect("the Rust takes this name")
 }

@@ -127,7 +127,7 @@ impl<'a> Found<'a> {
 /// What stands before and behind what demangling takes out.
 fn halves(symbol: &[u8]) -> (&[u8], &[u8]) {
     match symbol {
-        [b'#', rest @ ..] => (rest, b""),
+        [b'#', rest @ ..] if !rest.is_empty() => (rest, b""),
         [b'?', ..] => {
             let at = symbol.windows(3).position(|part| part == b"$$h");
             match at {

@@ -175,7 +175,8 @@ fn pattern(length: usize) -> Vec<u8> {
     (0..length).map(|k| (k * 167 + 91) as u8).collect()
 }
 
-/// What the Rust's answer asks of the library. An empty public name is refusal 12, which the Rust does not have.
+/// What the Rust's answer asks of the library. An empty public name is refusal 12, which the Rust does not have, and a free `#`
+/// refusal 14, where it writes an import.
 pub fn wanted(case: &Case, answer: &Answer) -> Wanted {
     match (refusal(case, answer), answer) {
         (Some(refusal), _) => Err(refusal),

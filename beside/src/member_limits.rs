@@ -207,11 +207,12 @@ fn short_names(rows: &mut Rows) -> Result<(), Difference> {
     let dll = b"a.dll";
     for symbol in [&b"a"[..], longest, b"\xFF"] {
         rows.taken(short(symbol, dll, None))?;
-        for export in [&b""[..], b"a", longest] {
+        for export in [&b"a"[..], longest] {
             rows.taken(short(symbol, dll, Some(export)))?;
         }
-        rows.refused(short(symbol, dll, Some(beyond)))?;
-        rows.refused(short(symbol, dll, Some(b"a\0b")))?;
+        for export in [&b""[..], beyond, b"a\0b"] {
+            rows.refused(short(symbol, dll, Some(export)))?;
+        }
     }
     for symbol in [&b""[..], beyond, b"a\0b"] {
         rows.refused(short(symbol, dll, None))?;
@@ -248,7 +249,10 @@ fn types(rows: &mut Rows) -> Result<(), Difference> {
                 export,
                 ..SHORT
             });
-            let has_its_strings = export.is_some() == (name_type == IMPORT_NAME_EXPORTAS);
+            let has_its_strings = match export {
+                Some(export) => name_type == IMPORT_NAME_EXPORTAS && !export.is_empty(),
+                None => name_type != IMPORT_NAME_EXPORTAS,
+            };
             let is_taken =
                 name_type <= IMPORT_NAME_EXPORTAS && kind <= IMPORT_CONST && has_its_strings;
             rows.either(is_taken, content)?;

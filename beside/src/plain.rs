@@ -174,7 +174,7 @@ pub fn get_name_type(base: &[u8], name: &[u8], machine: u32, mingw: bool) -> u16
 
 pub fn demangled(name: &[u8]) -> Option<Vec<u8>> {
     if let [b'#', rest @ ..] = name {
-        return Some(rest.to_vec());
+        return (!rest.is_empty()).then(|| rest.to_vec());
     }
     let at = find(name, b"$$h")?;
     let rest = &name[at + 3..];

@@ -177,7 +177,7 @@ fn short_import(mut eye: Eye<'_>) -> Option<Read> {
     let symbol = eye.string(1..=LONGEST_SHORT)?;
     let dll = eye.dll()?;
     let export = match name_type {
-        IMPORT_NAME_EXPORTAS => eye.string(0..=LONGEST_SHORT)?,
+        IMPORT_NAME_EXPORTAS => eye.string(1..=LONGEST_SHORT)?,
         _ => NO_NAME,
     };
     eye.end()?;

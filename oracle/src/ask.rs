@@ -177,11 +177,35 @@ pub fn import_alone(record: Record, options: Options) -> Option<Member> {
 /// The place of the first record with an empty public name, private ones left
 /// out. The port refuses it by number 12; the Rust has no such refusal.
 pub fn empty_public_name(list: &ExportList) -> Option<u32> {
-    let names = public_names(list.records());
-    let empty = |(record, name): (&Record, Option<Vec<u8>>)| {
-        !record.has(PRIVATE) && name.is_some_and(|name| name.is_empty())
+    first_named(list.records().collect(), |_, name| name.is_empty())
+}
+
+/// The place of the first free ARM64EC code import whose public name is `#`
+/// alone, private ones left out. The port refuses it by number 14; the Rust
+/// exports it by an empty string.
+pub fn hash_alone(list: &ExportList, options: Options) -> Option<u32> {
+    if !options.is_hybrid() {
+        return None;
+    }
+    let is_meant = |record: &Record, name: &[u8]| is_free(record) && name == b"#";
+    first_named(list.first.iter().collect(), is_meant)
+}
+
+/// Whether an ARM64EC import of an export would be code with neither noname nor
+/// an export string.
+pub fn is_free(record: &Record) -> bool {
+    !record.has(NONAME | DATA | CONSTANT)
+        && record.import_name.is_none()
+        && record.export_as.is_none()
+}
+
+/// The place of the first record that is not private and has such a public name.
+fn first_named(records: Vec<&Record>, is_meant: impl Fn(&Record, &[u8]) -> bool) -> Option<u32> {
+    let names = public_names(records.iter().copied());
+    let is_meant = |(record, name): (&Record, Option<Vec<u8>>)| {
+        !record.has(PRIVATE) && name.is_some_and(|name| is_meant(record, &name))
     };
-    let place = list.records().zip(names).position(empty)?;
+    let place = records.into_iter().zip(names).position(is_meant)?;
     Some(place as u32)
 }
 

@@ -5,7 +5,7 @@
 
 use crate::ask::{
     AMD64, ARM64, ARM64EC, ARM64X, ARMNT, Answer, I386, Member, Members, Options,
-    empty_public_name, public_names,
+    empty_public_name, hash_alone, is_free, public_names,
 };
 use crate::case::Case;
 use crate::imports::{Deferred, ShortImport, Written, type_alone};
@@ -84,7 +84,7 @@ pub const EVERY: [&str; 91] = [
     "ARM64EC code: prefixed, not free",
     "ARM64EC code: `#`, free",
     "ARM64EC code: `#`, not free",
-    "ARM64EC code: `#` alone, free",
+    "ARM64EC code: `#` alone, not free",
     "ARM64EC code: `?` with `$$h`, free",
     "ARM64EC code: `?` with `$$h`, not free",
     "ARM64EC code: `?` without `$$h`, not free",
@@ -126,18 +126,17 @@ pub fn facts(case: &Case, answer: &Answer) -> Vec<&'static str> {
 
 /// The number and place that the port gives to a list, if it refuses it.
 ///
-/// The Rust knows no 12; an empty public name counts when it stands before
-/// the record that the Rust refuses.
+/// The Rust knows no 12, and no 14 for `#` alone; an empty public name and a free
+/// `#` count when they stand before the record that the Rust refuses.
 pub fn refusal(case: &Case, answer: &Answer) -> Option<(u32, u32)> {
     let refused = match answer {
         Answer::Error { number, place, .. } => Some((*number, *place)),
         _ => None,
     };
     let empty = empty_public_name(&case.list).map(|place| (12, place));
-    match (refused, empty) {
-        (Some(refused), Some(empty)) if refused.1 < empty.1 => Some(refused),
-        (refused, empty) => empty.or(refused),
-    }
+    let alone = hash_alone(&case.list, case.options).map(|place| (14, place));
+    let refusals = [empty, alone, refused].into_iter().flatten();
+    refusals.min_by_key(|&(_, place)| place)
 }
 
 struct Facts(Vec<&'static str>);
@@ -346,8 +345,7 @@ impl Facts {
             self.add("ARM64EC: data or constant");
             return;
         }
-        let free =
-            !record.has(NONAME) && record.import_name.is_none() && record.export_as.is_none();
+        let free = is_free(record);
         let tags = public.windows(3).filter(|part| part == b"$$h").count();
         match (public[0], free, tags) {
             (b'#', true, _) => self.add("ARM64EC code: `#`, free"),
@@ -359,7 +357,7 @@ impl Facts {
             (_, true, _) => self.add("ARM64EC code: prefixed, free"),
             (_, false, _) => self.add("ARM64EC code: prefixed, not free"),
         }
-        self.add_if(free && public == b"#", "ARM64EC code: `#` alone, free");
+        self.add_if(!free && public == b"#", "ARM64EC code: `#` alone, not free");
         self.add_if(
             free && public[0] == b'?' && tags > 1,
             "ARM64EC code: two `$$h`",

@@ -2,7 +2,7 @@
 
 use std::collections::{BTreeMap, BTreeSet};
 
-use crate::ask::{Answer, empty_public_name};
+use crate::ask::{Answer, empty_public_name, hash_alone};
 use crate::case::Case;
 use crate::facts::facts;
 use crate::list::{push_u32, within_limits};
@@ -115,7 +115,10 @@ fn belongs(case: &Case, answer: &Answer) -> bool {
         Answer::Error { number, .. } => *number >= 11,
         _ => false,
     };
-    answered && within_limits(&case.list) && empty_public_name(&case.list).is_none()
+    answered
+        && within_limits(&case.list)
+        && empty_public_name(&case.list).is_none()
+        && hash_alone(&case.list, case.options).is_none()
 }
 
 fn case_bytes(case: &Case, answer: &Answer) -> Vec<u8> {

@@ -73,7 +73,10 @@ fn examples() -> Vec<Case> {
         Case::new(ARM64EC, &[r("f")]),
         Case::new(ARM64EC, &[r("?f")]),
         Case::new(ARM64EC, &[r("?f$$h")]),
-        Case::new(ARM64EC, &[r("#")]),
+        Case::new(
+            ARM64EC,
+            &[r("#").flags(NONAME).ordinal(3), r("#").export_as("x")],
+        ),
         Case::new(I386, &[noname.clone(), step.clone(), go.clone()]),
         Case::new(I386, &[step, noname, go]),
     ]
@@ -286,6 +289,10 @@ fn hybrid_names() -> Vec<Case> {
         r("?f$$h").import_name("f"),
         r("?f$$h").flags(NONAME),
         r("#").export_as("f"),
+        r("#").import_name("f"),
+        r("#").flags(NONAME),
+        r("#").flags(DATA),
+        r("#").flags(CONSTANT),
         r("#f").import_name("f"),
         r("#f").flags(NONAME),
         r("#f").flags(DATA),
@@ -389,7 +396,7 @@ fn lookups() -> Vec<Case> {
         Case::new(AMD64, &[noname, r("a")]),
         Case::new(AMD64, &[imp, data, r("a")]),
         Case::new(AMD64, &[r("a"), r("a").flags(DATA), r("__imp_a")]),
-        Case::new(ARM64EC, &[r("#"), r("#aux_"), r("__imp_")]),
+        Case::new(ARM64EC, &[r("#").export_as("x"), r("__imp_#"), r("#aux_#")]),
         Case::new(ARM64EC, &[r("f"), r("#f"), r("f").flags(DATA)]),
     ]
 }

@@ -140,6 +140,8 @@ fn p9_and_p10_arm64ec() {
     assert_eq!(error(&list("?f")), (13, 0));
     assert_eq!(error(&list("?f$$h")), (14, 0));
     assert_eq!(tail("#"), "#\0att.dll\0\0");
+    let alone = list("#");
+    assert_eq!(refusal(&alone, &alone.answer()), Some((14, 0)));
 }
 
 #[test]

@@ -176,11 +176,11 @@ impl ShortImport<'_> {
     }
 }
 
-/// An ARM64EC symbol without a leading `#`, or without the first `$$h` behind a leading `?` where something follows it.
+/// An ARM64EC symbol without a leading `#`, or without the first `$$h` behind a leading `?`, where something follows it.
 fn demangled(symbol: &[u8]) -> Option<Vec<u8>> {
     const MARK: &[u8] = b"$$h";
     match symbol {
-        [b'#', rest @ ..] => Some(rest.to_vec()),
+        [b'#', rest @ ..] => (!rest.is_empty()).then(|| rest.to_vec()),
         [b'?', ..] => {
             let at = symbol.windows(MARK.len()).position(|part| part == MARK)?;
             let rest = &symbol[at + MARK.len()..];

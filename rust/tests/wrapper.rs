@@ -75,6 +75,7 @@ fn every_symbol_of_a_member_is_found() {
         .export(middle)
         .export(odd.noname().ordinal(3))
         .export(Export::new("?end$$h").noname().ordinal(4))
+        .export(Export::new("#").noname().ordinal(5))
         .export(data)
         .native(Export::new("plain"));
     let set = write(&list.encode(), Options::new(Machine::ARM64X)).expect("the list is good");
@@ -88,7 +89,7 @@ fn every_symbol_of_a_member_is_found() {
         }
         counts.push(symbols.len());
     }
-    assert_eq!(counts, [0, 0, 0, 4, 4, 4, 3, 3, 1, 2]);
+    assert_eq!(counts, [0, 0, 0, 4, 4, 4, 3, 3, 3, 1, 2]);
 }
 
 #[test]
@@ -196,6 +197,7 @@ fn every_refusal_has_its_number_place_and_words() {
         ),
         (refused(&two(Export::new("?g"))), 13, 1, "without `$$h`"),
         (refused(&two(Export::new("?g$$h"))), 14, 1, "demangled"),
+        (refused(&two(Export::new("#"))), 14, 1, "demangled"),
         (
             write_into(&good, AMD64, &mut []).unwrap_err(),
             15,

@@ -18,12 +18,12 @@ use Rattle.wire.proofs.Writes.{_⨾_, wrote-as, wrote-one, wrote-length, wrote-
 use Rattle.format.specs.Machines.{known, wide, arm64x}
 use Rattle.format.specs.Layouts as L
 use Rattle.format.specs.Layouts.{Member, descriptor, nullDescriptor, nullThunk, weak, importHeaderSize, descriptorName, nullName, slotSize}
-use Rattle.format.specs.Reader.{between, admitsDll, admitsStem, ordinary, admits, read, span, absent, stemSpan, fields, fieldsOrRefused, readFields}
+use Rattle.format.specs.Reader.{between, admitsDll, admitsStem, admitsExport, ordinary, admits, read, span, absent, stemSpan, fields, fieldsOrRefused, readFields}
 use Rattle.format.specs.Answers.{readNumber, layoutNumber, readValues, bit, ends}
 use Rattle.format.specs.declared.Span.{Span}
 use Rattle.format.specs.declared.Read.{Read}
 use Rattle.format.specs.declared.Read.the-variants.{Descriptor, NullDescriptor, NullThunk, ShortImport, WeakExternal, Refused}
-use Rattle.laws.proofs.ReadBack.{between-true, read-sound}
+use Rattle.laws.proofs.ReadBack.{between-true, export-true, read-sound}
 use Rattle.laws.proofs.Totals.{stem-short}
 use Rattle.crepedum.specs.Reading.{fieldCount, readWord, filled, readAnswer, fieldsAfter, Short, Shorts}
 
@@ -119,12 +119,11 @@ shorts-fields (nullThunk m s) e =
     let (machine, name) = and-each (ordinary m) (between 1 255 s ∷ []) e in
     short _ _ (omega (arith, slot-small m)) (omega (arith, between-true 1 255 s name .1))
 shorts-fields (L.short m o k t s dll x) e =
-    let limit : ℕ = if eqb t 4 then 8190 else 0 in
-    let tests : List Bool = not (eqb m arm64x) ∷ ltb o 65536 ∷ leb k 2 ∷ leb t 4 ∷ between 1 8190 s ∷ admitsDll dll ∷ between 0 limit x ∷ [] in
+    let tests : List Bool = not (eqb m arm64x) ∷ ltb o 65536 ∷ leb k 2 ∷ leb t 4 ∷ between 1 8190 s ∷ admitsDll dll ∷ admitsExport t x ∷ [] in
     let (machine, (notX, (ordinal, (kinds, (types, (symbol, (name, exported))))))) = and-each (known m) tests e in
     let h = between-true 1 8190 s symbol .1 in
     let d = dll-small dll name in
-    (short _ _ (omega arith) (omega arith), short _ _ (omega arith) (omega arith), pick (eqb t 4) h d (between-true 0 limit x exported .1))
+    (short _ _ (omega arith) (omega arith), short _ _ (omega arith) (omega arith), pick (eqb t 4) h d (export-true t x exported .0))
   where
     pick : (q : Bool) → length s ≤ 8190 → length dll ≤ 255 → length x ≤ (if q then 8190 else 0)
         → Short (if q then span (importHeaderSize + (length s + 1) + (length dll + 1)) (length x) else absent)

@@ -23,7 +23,7 @@ use Rattle.format.specs.Refusals.{checkExports, checkAll}
 use Rattle.format.specs.Reader as Reader
 use Rattle.format.specs.Reader.{readFields, span}
 use Rattle.format.specs.Lookup as Lookup
-use Rattle.format.specs.Lookup.{lookup}
+use Rattle.format.specs.Lookup.{symbols, lookup}
 use Rattle.format.specs.Demands as Demands
 use Rattle.format.specs.Demands.{Where, leads, nowhere, notFound, byOrdinal, byName, meaning}
 use Rattle.format.specs.Private.{no-more, private-right, same-next, Alike}
@@ -107,6 +107,10 @@ isNoname = 1
 abbrev isDatum : ℕ
 isDatum = 2
 
+-- P10's name with noname, with export_as and with import_name
+abbrev hashes : List Given
+hashes = named "#" 3 isNoname ∷ exportedAs "#" "x" ∷ wants "#" "y" 0 ∷ []
+
 -- P11's three records
 abbrev byNumber : Given
 byNumber = named "att_step" 3 isNoname
@@ -174,9 +178,13 @@ pub table :
     × (firsts arm64ec (named "f" 0 0 ∷ []) ≡ exporting arm64ec "#f" "f" ∷ [])
     × (checkExports (on arm64ec) (list (named "?f" 0 0 ∷ [])) ≡ Refused 13 0)
     × (checkExports (on arm64ec) (list (named "?f$$h" 0 0 ∷ [])) ≡ Refused 14 0)
-    -- P10
-    × (checkExports (on arm64ec) (list (named "#" 0 0 ∷ [])) ≡ Fine)
-    × (firsts arm64ec (named "#" 0 0 ∷ []) ≡ exporting arm64ec "#" "" ∷ [])
+    -- P10 as amended; with noname or an export string it is written, under the symbols of the name itself
+    × (checkExports (on arm64ec) (list (named "#" 0 0 ∷ [])) ≡ Refused 14 0)
+    × (checkExports (on arm64ec) (list hashes) ≡ Fine)
+    × (firsts arm64ec hashes ≡ short arm64ec 3 0 0 (ascii "#") dll [] ∷ exporting arm64ec "#" "x" ∷ exporting arm64ec "#" "y" ∷ [])
+    × (symbols (exporting arm64ec "#" "x") ≡ ascii "__imp_#" ∷ ascii "#" ∷ ascii "__imp_aux_#" ∷ ascii "#" ∷ [])
+    × (led arm64ec hashes (ascii "__imp_aux_#") ≡ leads (byOrdinal 3))
+    × (led arm64ec hashes (ascii "__imp_") ≡ notFound)
     -- P11
     × (firsts i386 (byNumber ∷ decorated ∷ wanting ∷ [])
     ≡ short i386 3 0 0 (ascii "att_step") dll [] ∷ plainShort i386 2 "_att_step" ∷ aliases i386 "_att_step" "att_go")
@@ -214,10 +222,12 @@ pub table :
     × (readFields (encode (nullDescriptor amd64 (some (ascii "att")))) ≡ R.NullDescriptor amd64 true (span 127 3))
     × (readFields (encode (nullThunk i386 (ascii "/:"))) ≡ R.NullThunk i386 (span 131 2))
     × (readFields (encode (weak amd64 (ascii "_att_step") (ascii "att_go"))) ≡ R.WeakExternal amd64 (span 154 9) (span 164 6))
-    -- and what it does not admit: ARM64EC but in short imports, a DLL name the writer refuses, kind 3, an empty weak name
+    -- and what it does not admit: ARM64EC but in short imports, a DLL name the writer refuses, kind 3, an empty export string, an empty
+    -- weak name
     × (readFields (encode (weak arm64ec (ascii "t") (ascii "a"))) ≡ R.Refused 16 0)
     × (readFields (encode (short arm64ec 0 0 1 (ascii "t") (ascii ".") [])) ≡ R.Refused 16 0)
     × (readFields (encode (short arm64ec 0 3 1 (ascii "t") dll [])) ≡ R.Refused 16 0)
+    × (readFields (encode (exporting arm64ec "#" "")) ≡ R.Refused 16 0)
     × (readFields (encode (weak amd64 [] (ascii "a"))) ≡ R.Refused 16 0)
     -- refusals: order and places
     × (checkAll (on 0x1014C) [] 0 ≡ Refused 1 0)
@@ -256,8 +266,7 @@ pub table :
     -- ARM64EC and ARM64X: fixed members are ARM64's; the lists keep apart
     × (part (memberSet (on arm64ec) (list [])) 40 2 ≡ le16 arm64)
     × (nativeMembers (on arm64x) (lists (named "f" 0 0 ∷ []) (named "g" 0 0 ∷ [])) ≡ plainShort arm64 1 "g" ∷ [])
-    -- lookup: the symbols of an ARM64EC import, the empty one among them; not a set, before the list's number
-    × (led arm64ec (named "#" 0 0 ∷ []) [] ≡ leads (byName []))
+    -- lookup: the symbols of an ARM64EC import; not a set, before the list's number
     × (led arm64ec (named "f" 0 0 ∷ []) (ascii "__imp_aux_f") ≡ leads (byName (ascii "f")))
     × (led arm64ec (named "f" 0 0 ∷ []) (ascii "#f") ≡ leads (byName (ascii "f")))
     × (led arm64ec (named "f" 0 0 ∷ []) (ascii "__imp_#f") ≡ notFound)
@@ -284,6 +293,10 @@ pub table :
     × (encode (weak i386 (ascii "t") (ascii "ab")) ≡ (76 ∷ 1 ∷ 1 ∷ 0 ∷ 0 ∷ 0 ∷ 0 ∷ 0 ∷ 60 ∷ 0 ∷ 0 ∷ 0 ∷ 5 ∷ 0 ∷ 0 ∷ 0 ∷ 0 ∷ 0 ∷ 0 ∷ 0 ∷ 46 ∷ 100 ∷ 114 ∷ 101 ∷ 99 ∷ 116 ∷ 118 ∷ 101 ∷ 0 ∷ 0 ∷ 0 ∷ 0 ∷ 0 ∷ 0 ∷ 0 ∷ 0 ∷ 0 ∷ 0 ∷ 0 ∷ 0 ∷ 0 ∷ 0 ∷ 0 ∷ 0 ∷ 0 ∷ 0 ∷ 0 ∷ 0 ∷ 0 ∷ 0 ∷ 0 ∷ 0 ∷ 0 ∷ 0 ∷ 0 ∷ 0 ∷ 0 ∷ 10 ∷ 0 ∷ 0 ∷ 64 ∷ 99 ∷ 111 ∷ 109 ∷ 112 ∷ 46 ∷ 105 ∷ 100 ∷ 0 ∷ 0 ∷ 0 ∷ 0 ∷ 255 ∷ 255 ∷ 0 ∷ 0 ∷ 3 ∷ 0 ∷ 64 ∷ 102 ∷ 101 ∷ 97 ∷ 116 ∷ 46 ∷ 48 ∷ 48 ∷ 0 ∷ 0 ∷ 0 ∷ 0 ∷ 255 ∷ 255 ∷ 0 ∷ 0 ∷ 3 ∷ 0 ∷ 0 ∷ 0 ∷ 0 ∷ 0 ∷ 4 ∷ 0 ∷ 0 ∷ 0 ∷ 0 ∷ 0 ∷ 0 ∷ 0 ∷ 0 ∷ 0 ∷ 0 ∷ 0 ∷ 2 ∷ 0 ∷ 0 ∷ 0 ∷ 0 ∷ 0 ∷ 6 ∷ 0 ∷ 0 ∷ 0 ∷ 0 ∷ 0 ∷ 0 ∷ 0 ∷ 0 ∷ 0 ∷ 0 ∷ 0 ∷ 105 ∷ 1 ∷ 2 ∷ 0 ∷ 0 ∷ 0 ∷ 3 ∷ 0 ∷ 0 ∷ 0 ∷ 0 ∷ 0 ∷ 0 ∷ 0 ∷ 0 ∷ 0 ∷ 0 ∷ 0 ∷ 0 ∷ 0 ∷ 9 ∷ 0 ∷ 0 ∷ 0 ∷ 116 ∷ 0 ∷ 97 ∷ 98 ∷ 0 ∷ []))
 unfolding Bytes.opened Machines.opened Exports.opened Names.opened Plan.opened Layouts.opened Library.opened Refusals.opened Reader.opened Lookup.opened Demands.opened Answers.opened
 table = (
+  refl,
+  refl,
+  refl,
+  refl,
   refl,
   refl,
   refl,

@@ -1,6 +1,6 @@
 -- Every member of an accepted list is one that the reader admits.
 use Prim.Native.Nat.{ℕ, zero, suc, _+_, _-_, _≤_, _<_}
-use mathlib.Core.Path.{_≡_, refl, sym, ap}
+use mathlib.Core.Path.{_≡_, refl, sym}
 use mathlib.Core.Logic.{_⊎_, ⊎-elim}
 use mathlib.Core.Bool.{Bool, true, false, _||_, not}
 use mathlib.Core.Option.{Option, none, some, Option·none-ne-some}
@@ -9,7 +9,7 @@ use native.Mathlib.Omega.{arith}
 use lib.ListN.{length, getD, length-append, length-take}
 use lib.Dec.{eqb}
 use borrow.Author.Tests.{le-leb, lt-ltb}
-use Rattle.wire.specs.Bytes.{Bytes, Octets, ascii, if_then_else_, holds, last, orElse}
+use Rattle.wire.specs.Bytes.{Bytes, Octets, ascii, if_then_else_, same, holds, last, orElse}
 use Rattle.wire.proofs.Bytes.{and-first, and-next, both-true, or-next, holds-take, u16At-small, join-within}
 use Rattle.format.specs.Machines.{i386, armnt, amd64, arm64, arm64ec, arm64x, known, hybrid, firstMachine, nativeMachine}
 use Rattle.format.specs.Exports.{Export, dllName, ordinalAt, exportAt, exportsFrom, firstExports, nativeExports, firstCount, nativeCount, isPrivate}
@@ -18,12 +18,12 @@ use Rattle.format.specs.Plan.{Plan, plain, deferred, refused, kind, plan}
 use Rattle.format.specs.Layouts.{Member, descriptor, nullDescriptor, nullThunk, short, weak, compatStem}
 use Rattle.format.specs.Library.{Options, imp, answersTo, final, lastAnswering, shortMember, aliasMembers, aliasOrShort, deferredMember, shorts, deferreds, membersOf, fixedMembers, firstMembers, nativeMembers, allMembers}
 use Rattle.format.specs.Refusals.{maxDll, checkExports}
-use Rattle.format.specs.Reader.{between, admitsDll, admitsStem, ordinary, admits}
+use Rattle.format.specs.Reader.{between, admitsDll, admitsStem, admitsExport, ordinary, admits}
 use Rattle.format.specs.declared.Checked.the-variants.{Fine}
 use Rattle.laws.proofs.Accepted.{Good, GoodExport, Accepted, accepted}
 use Rattle.laws.proofs.Names.{last-at}
 use Rattle.laws.proofs.ReadBack.{known-each}
-use Rattle.laws.proofs.Plans.{Clear, maxPublic, maxFinal, kind-small, PlainBounds, DeferredBounds, PlanBounds, of-plain, of-deferred, plan-bounds}
+use Rattle.laws.proofs.Plans.{Clear, maxPublic, maxFinal, kind-small, Exported, of-exportas, of-other, PlainBounds, DeferredBounds, PlanBounds, of-plain, of-deferred, plan-bounds}
 
 -- ---- names between limits
 
@@ -37,6 +37,11 @@ imp-clear s e = e
 
 imp-length : (s : Bytes) → length (imp s) ≡ 6 + length s
 imp-length s = length-append (ascii "__imp_") s
+
+export-admitted : (t : ℕ) (x : Bytes) → Exported t x → admitsExport t x ≡ true
+unfolding admitsExport same
+export-admitted t x (of-exportas g) = between-is 1 8190 x (g .some-bytes) (g .few) (g .clear)
+export-admitted t x (of-other n) = rw n
 
 -- ---- the stem
 
@@ -111,10 +116,10 @@ listed-ordinary m l e = simp (l .is-known, e, l .not-arm64x)
 -- ---- the members of one list
 
 module _ (machine : ℕ) (mingw : Bool) (dll : Bytes) (listed : ListMachine machine) (admitted : admitsDll dll ≡ true) where
-  short-admitted : (o k t : ℕ) (f x : Bytes) → o < 65536 → k ≤ 2 → t ≤ 4 → 1 ≤ length f → Clear maxFinal f → Clear maxFinal x → (eqb t 4 ≡ false → x ≡ [])
+  short-admitted : (o k t : ℕ) (f x : Bytes) → o < 65536 → k ≤ 2 → t ≤ 4 → 1 ≤ length f → Clear maxFinal f → Exported t x
       → admits (short machine o k t f dll x) ≡ true
   unfolding admits
-  short-admitted o k t f x ho hk ht sf cf cx nx =
+  short-admitted o k t f x ho hk ht sf cf ex =
       simp (
         listed .is-known,
         listed .not-arm64x,
@@ -123,12 +128,8 @@ module _ (machine : ℕ) (mingw : Bool) (dll : Bytes) (listed : ListMachine mach
         le-leb _ _ ht,
         between-is 1 8190 f sf (cf .few) (cf .clear),
         admitted,
-        exported (eqb t 4) nx,
+        export-admitted t x ex,
       )
-    where
-      exported : (q : Bool) → (q ≡ false → x ≡ []) → between 0 (if q then 8190 else 0) x ≡ true
-      exported true n = between-is 0 8190 x (omega arith) (cx .few) (cx .clear)
-      exported false n = let e = n refl in between-is 0 0 x (omega arith) (omega (arith, ap length e)) (cx .clear)
 
   weak-admitted : (t a : Bytes) → eqb machine arm64ec ≡ false → 1 ≤ length t → Clear 8195 t → 1 ≤ length a → Clear 8195 a → admits (weak machine t a) ≡ true
   unfolding admits
@@ -217,7 +218,7 @@ module _ (machine : ℕ) (mingw : Bool) (dll : Bytes) (listed : ListMachine mach
   unfolding shortMember
   shorts-admitted m e (plain f t x) o (of-plain b) i =
       rw (List·Memᴰ·eq-of-singleton i)
-      (short-admitted machine mingw dll listed admitted (e .ordinal) (kind e) t f x o (kind-small e) (b .type) (b .some-bytes) (b .named) (b .export) (b .exported))
+      (short-admitted machine mingw dll listed admitted (e .ordinal) (kind e) t f x o (kind-small e) (b .type) (b .some-bytes) (b .named) (b .exported))
   shorts-admitted m e (deferred p w) o b i = absurd (List·Memᴰ·not-nil i)
   shorts-admitted m e (refused n) o b i = absurd (List·Memᴰ·not-nil i)
 
@@ -228,8 +229,7 @@ module _ (machine : ℕ) (mingw : Bool) (dll : Bytes) (listed : ListMachine mach
       rw (List·Memᴰ·eq-of-singleton i)
       (short-admitted machine mingw dll listed admitted (e .ordinal) (kind e) 4 p w o (kind-small e) (omega arith) (b .some-bytes)
       (record { few = omega (arith, b .named .few); clear = b .named .clear })
-      (record { few = omega (arith, b .wanted .few); clear = b .wanted .clear })
-      (λ h. let z : _≡_ {A = ℕ} 0 1 = cc in absurd (omega arith)))
+      (of-exportas (record { some-bytes = b .wanted .some-bytes; few = omega (arith, b .wanted .few); clear = b .wanted .clear })))
   or-short-admitted m e p w (some a) q o b i =
       let r = last-answering machine mingw w es a q in
       let s = answers-plain machine w (plan machine mingw a) (plan-bounds machine mingw a (goods a (r .listed))) (r .answers) in

@@ -8,7 +8,8 @@ use mathlib.Core.List.{[], _∷_, _++_}
 use native.Mathlib.Omega.{arith}
 use lib.ListN.{length, take, drop, length-append, length-take, length-drop}
 use lib.Dec.{eqb}
-use Rattle.wire.specs.Bytes.{Bytes, if_then_else_, starts, holds, first, last, part, orElse}
+use borrow.Author.Tests.{ne-eqb, eqb-false}
+use Rattle.wire.specs.Bytes.{Bytes, if_then_else_, same, starts, holds, first, last, part, orElse}
 use Rattle.wire.proofs.Bytes.{same-eq, holds-take, holds-drop, holds-neither}
 use Rattle.format.specs.Names.{underscore, occursAt, find, splice, replaceOnce, replace, tag, cut, demangle, question, hash}
 
@@ -92,6 +93,13 @@ unfolding starts
 starts-some c [] e = let z : _≡_ {A = ℕ} 0 1 = cc in omega arith
 starts-some c (x ∷ xs) e = omega arith
 
+-- a byte alone
+pub same-one : (c : ℕ) (s : Bytes) → same s (c ∷ []) ≡ (starts c s && eqb (length s) 1)
+unfolding same starts
+same-one c [] = refl
+same-one c (x ∷ []) = refl
+same-one c (x ∷ y ∷ ys) = rw (ne-eqb (length (x ∷ y ∷ ys)) 1 (λ e. absurd (omega arith)))
+
 -- the two ways in which a replacement comes about
 pub replace-ways : (s from to r : Bytes) → replace s from to ≡ some r
     → (replaceOnce s from to ≡ some r) ⊎ ((starts underscore from ≡ true) × (starts underscore to ≡ true) × (replaceOnce s (drop 1 from) (drop 1 to) ≡ some r))
@@ -131,16 +139,22 @@ replace-clear s from to r h k e =
 
 -- ---- demangle
 
-pub cut-length : (s r : Bytes) (i : Option ℕ) → cut s i ≡ some r → length r ≤ length s
+-- something is left, since something follows the tag
+pub cut-length : (s r : Bytes) (i : Option ℕ) → find tag s ≡ i → cut s i ≡ some r → (1 ≤ length r) × (length r ≤ length s)
 unfolding cut
-cut-length s r none e = absurd (Option·none-ne-some r e)
-cut-length s r (some i) e = pick (eqb (length s) (i + length tag)) e
+cut-length s r none f e = absurd (Option·none-ne-some r e)
+cut-length s r (some i) f e = pick (eqb (length s) (i + length tag)) refl e
   where
-    pick : (t : Bool) → (if t then none else some (take i s ++ drop (i + length tag) s)) ≡ some r → length r ≤ length s
-    pick true e = absurd (Option·none-ne-some r e)
-    pick false e =
+    pick : (t : Bool) → eqb (length s) (i + length tag) ≡ t → (if t then none else some (take i s ++ drop (i + length tag) s)) ≡ some r
+        → (1 ≤ length r) × (length r ≤ length s)
+    pick true h e = absurd (Option·none-ne-some r e)
+    pick false h e =
         let q : take i s ++ drop (i + length tag) s ≡ r = cc in
-        omega (arith, ap length q, length-append (take i s) (drop (i + 3) s), length-take i s, length-drop (i + 3) s)
+        let l = ap length q in
+        let a = length-append (take i s) (drop (i + 3) s) in
+        let t = length-take i s in
+        let d = length-drop (i + 3) s in
+        (omega (arith, l, a, t, d, find-within tag s i f, eqb-false (length s) (i + 3) h), omega (arith, l, a, t, d))
 
 pub cut-clear : (s r : Bytes) (i : Option ℕ) → holds 0 s ≡ false → cut s i ≡ some r → holds 0 r ≡ false
 unfolding cut
@@ -154,19 +168,26 @@ cut-clear s r (some i) h e = pick (eqb (length s) (i + length tag)) e
         rw (← q) (holds-neither 0 (take i s) (drop (i + length tag) s) (holds-take 0 i s h) (holds-drop 0 (i + length tag) s h))
 
 -- the ways in which a name is demangled
-pub demangle-ways : (s r : Bytes) → demangle s ≡ some r → (drop 1 s ≡ r) ⊎ (cut s (find tag s) ≡ some r)
+demangle-ways : (s r : Bytes) → demangle s ≡ some r → ((2 ≤ length s) × (drop 1 s ≡ r)) ⊎ (cut s (find tag s) ≡ some r)
 unfolding demangle
-demangle-ways s r e = pick (starts hash s) (starts question s) e
+demangle-ways s r e = pick (starts hash s) refl (eqb (length s) 1) refl (starts question s) (rw (same-one hash s) at e)
   where
-    pick : (a b : Bool) → (if a then some (drop 1 s) else if b then cut s (find tag s) else none) ≡ some r → (drop 1 s ≡ r) ⊎ (cut s (find tag s) ≡ some r)
-    pick true b e = inl (cc)
-    pick false true e = inr e
-    pick false false e = absurd (Option·none-ne-some r e)
+    pick : (a : Bool) → starts hash s ≡ a → (l : Bool) → eqb (length s) 1 ≡ l → (b : Bool)
+        → (if a && l then none else if a then some (drop 1 s) else if b then cut s (find tag s) else none) ≡ some r
+        → ((2 ≤ length s) × (drop 1 s ≡ r)) ⊎ (cut s (find tag s) ≡ some r)
+    pick true h true l b e = absurd (Option·none-ne-some r e)
+    pick true h false l b e = inl (omega (arith, starts-some hash s h, eqb-false (length s) 1 l), cc)
+    pick false h l m true e = inr e
+    pick false h l m false e = absurd (Option·none-ne-some r e)
 
-pub demangle-length : (s r : Bytes) → demangle s ≡ some r → length r ≤ length s
+-- a demangled name is never empty
+pub demangle-length : (s r : Bytes) → demangle s ≡ some r → (1 ≤ length r) × (length r ≤ length s)
 demangle-length s r e =
-    ⊎-elim (λ q. omega (arith, ap length q, length-drop 1 s)) (λ q. cut-length s r (find tag s) q) (demangle-ways s r e)
+    ⊎-elim
+    (λ q. let l = ap length (q .1) in let d = length-drop 1 s in (omega (arith, l, d, q .0), omega (arith, l, d)))
+    (λ q. cut-length s r (find tag s) refl q)
+    (demangle-ways s r e)
 
 pub demangle-clear : (s r : Bytes) → holds 0 s ≡ false → demangle s ≡ some r → holds 0 r ≡ false
 demangle-clear s r h e =
-    ⊎-elim (λ q. rw (← q) (holds-drop 0 1 s h)) (λ q. cut-clear s r (find tag s) h q) (demangle-ways s r e)
+    ⊎-elim (λ q. rw (← q .1) (holds-drop 0 1 s h)) (λ q. cut-clear s r (find tag s) h q) (demangle-ways s r e)

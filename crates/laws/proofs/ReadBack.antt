@@ -14,7 +14,7 @@ use Rattle.wire.proofs.Bytes.{and-first, and-each, or-either, not-true, same-re
 use Rattle.format.specs.Machines.{i386, armnt, amd64, arm64, arm64ec, arm64x, known}
 use Rattle.format.specs.Names.{stem}
 use Rattle.format.specs.Layouts.{Member, descriptor, nullDescriptor, nullThunk, short, weak, importHeaderSize, dllAt, fileHeader, strings, nullName, thunkName, descriptorBytes, nullDescriptorBytes, nullThunkBytes, importHeader, shortBytes, weakBytes, encode}
-use Rattle.format.specs.Reader.{between, admitsDll, admitsStem, ordinary, admits, Reads, textAt, nullStringsAt, thunkStringsAt, weakStringsAt, descriptorGuess, nullGuess, thunkGuess, shortGuess, weakGuess, guess, right, read, fieldsOrRefused, readFields}
+use Rattle.format.specs.Reader.{between, admitsDll, admitsStem, admitsExport, ordinary, admits, Reads, textAt, nullStringsAt, thunkStringsAt, weakStringsAt, descriptorGuess, nullGuess, thunkGuess, shortGuess, weakGuess, guess, right, read, fieldsOrRefused, readFields}
 use Rattle.format.specs.Demands.{Demand2}
 use Rattle.format.specs.declared.Read.{Read}
 use Rattle.laws.proofs.Lengths.{length-thunkName, length-encode-descriptor}
@@ -53,6 +53,15 @@ between-true low high s e =
 
 pub between-clear : (low high : ℕ) (s : Bytes) → between low high s ≡ true → holds 0 s ≡ false
 between-clear low high s e = between-true low high s e .2
+
+-- how long an export string is at most
+pub export-true : (t : ℕ) (x : Bytes) → admitsExport t x ≡ true → (length x ≤ (if eqb t 4 then 8190 else 0)) × (holds 0 x ≡ false)
+unfolding admitsExport holds
+export-true t x e = pick (eqb t 4) e
+  where
+    pick : (q : Bool) → (if q then between 1 8190 x else same x []) ≡ true → (length x ≤ (if q then 8190 else 0)) × (holds 0 x ≡ false)
+    pick true e = let (l, h, c) = between-true 1 8190 x e in (h, c)
+    pick false e = rw (same-eq x [] e) (omega arith, refl)
 
 pub admitsDll-clear : (dll : Bytes) → admitsDll dll ≡ true → holds 0 dll ≡ false
 unfolding admitsDll
@@ -251,12 +260,11 @@ guess-back (nullThunk m s) e =
     let (machine, name) = and-each (ordinary m) (between 1 255 s ∷ []) e in
     guess-nullThunk m s (ordinary-number m machine) (between-clear 1 255 s name)
 guess-back (short m o k t s dll x) e =
-    let limit : ℕ = if eqb t 4 then 8190 else 0 in
-    let tests : List Bool = not (eqb m arm64x) ∷ ltb o 65536 ∷ leb k 2 ∷ leb t 4 ∷ between 1 8190 s ∷ admitsDll dll ∷ between 0 limit x ∷ [] in
+    let tests : List Bool = not (eqb m arm64x) ∷ ltb o 65536 ∷ leb k 2 ∷ leb t 4 ∷ between 1 8190 s ∷ admitsDll dll ∷ admitsExport t x ∷ [] in
     let (machine, (notX, (ordinal, (kinds, (types, (symbol, (name, exported))))))) = and-each (known m) tests e in
     guess-short m o k t s dll x (known-number m machine .1) (ltb-true o 65536 ordinal) (leb-true k 2 kinds) (leb-true t 4 types)
-    (between-clear 1 8190 s symbol) (admitsDll-clear dll name) (between-clear 0 limit x exported)
-    (λ q. drop-of-length-le x (rw q at (between-true 0 (if eqb t 4 then 8190 else 0) x exported .1)))
+    (between-clear 1 8190 s symbol) (admitsDll-clear dll name) (export-true t x exported .1)
+    (λ q. drop-of-length-le x (rw q at (export-true t x exported .0)))
 guess-back (weak m target alias) e =
     let (machine, (first, second)) = and-each (ordinary m) (between 1 8195 target ∷ between 1 8195 alias ∷ []) e in
     guess-weak m target alias (ordinary-number m machine) (between-clear 1 8195 target first) (between-clear 1 8195 alias second)

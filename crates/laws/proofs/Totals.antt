@@ -16,13 +16,13 @@ use Rattle.format.specs.Names.{dot, upToDot, stem, barredDll}
 use Rattle.format.specs.Exports.{Export, dllName, firstCount, nativeCount, firstExports, nativeExports}
 use Rattle.format.specs.Plan.{Plan, plain, deferred, refused, kind, plan}
 use Rattle.format.specs.Layouts.{Member, descriptor, nullDescriptor, nullThunk, short, weak, slotSize, encode}
-use Rattle.format.specs.Reader.{between, admitsDll, admitsStem, ordinary, admits}
+use Rattle.format.specs.Reader.{between, admitsDll, admitsStem, admitsExport, ordinary, admits}
 use Rattle.format.specs.Library.{Options, imp, final, lastAnswering, shortMember, aliasMembers, aliasOrShort, deferredMember, shorts, deferreds, membersOf, fixedMembers, firstMembers, nativeMembers, allMembers, firstMemberAt, directory, setBytes, memberSet}
 use Rattle.format.specs.Refusals.{checkExports}
 use Rattle.format.specs.declared.Checked.the-variants.{Fine}
 use Rattle.laws.proofs.Accepted.{Accepted, accepted, exports-few}
 use Rattle.laws.proofs.Lengths.{length-encode-descriptor, length-encode-nullDescriptor-none, length-encode-nullDescriptor-some, length-encode-nullThunk, length-encode-short, length-encode-weak}
-use Rattle.laws.proofs.ReadBack.{between-true}
+use Rattle.laws.proofs.ReadBack.{between-true, export-true}
 use Rattle.laws.proofs.Members.{all-admitted}
 
 -- ---- how many members a list has: at most two for each export
@@ -144,10 +144,9 @@ member-small (nullThunk m s) e =
     let (l, h, c) = between-true 1 255 s (and-next (ordinary m) (between 1 255 s) e) in
     omega (arith, length-encode-nullThunk m s, slot-small m)
 member-small (short m o k t s dll x) e =
-    let limit : ℕ = if eqb t 4 then 8190 else 0 in
-    let tests : List Bool = not (eqb m arm64x) ∷ ltb o 65536 ∷ leb k 2 ∷ leb t 4 ∷ between 1 8190 s ∷ admitsDll dll ∷ between 0 limit x ∷ [] in
+    let tests : List Bool = not (eqb m arm64x) ∷ ltb o 65536 ∷ leb k 2 ∷ leb t 4 ∷ between 1 8190 s ∷ admitsDll dll ∷ admitsExport t x ∷ [] in
     let (machine, (notX, (ordinal, (kinds, (types, (symbol, (name, exported))))))) = and-each (known m) tests e in
-    pick (eqb t 4) (length-encode-short m o k t s dll x) (between-true 1 8190 s symbol .1) (dll-few dll name) (between-true 0 (if eqb t 4 then 8190 else 0) x exported .1)
+    pick (eqb t 4) (length-encode-short m o k t s dll x) (between-true 1 8190 s symbol .1) (dll-few dll name) (export-true t x exported .0)
   where
     pick : (q : Bool) {n : ℕ} → n ≡ 22 + length s + length dll + (if q then length x + 1 else 0) → length s ≤ 8190 → length dll ≤ 255
         → length x ≤ (if q then 8190 else 0) → n ≤ maxMember

@@ -9,7 +9,7 @@ use lib.ListN.{length}
 use borrow.Author.Tests.{eq-eqb, ne-eqb, eqb-true}
 use Rattle.wire.specs.Bytes.{Bytes, if_then_else_, starts, isSome}
 use Rattle.format.specs.Names.{hash, question, tag, find, tagged, cut, demangle}
-use Rattle.laws.proofs.Names.{starts-some, find-within}
+use Rattle.laws.proofs.Names.{starts-some, same-one, find-within}
 use Rattle.names.specs.Mangler.{manglingOf, demangledOf, Demangles}
 use Rattle.names.specs.declared.mangler.Mangling.the-variants.{Prefix, Mangled}
 use Rattle.names.specs.declared.mangler.Mangling.the-variants as mangling
@@ -44,29 +44,34 @@ module _ (s : Bytes) (e : starts question s ≡ true) where
 -- ---- Demangles
 
 module _ (s : Bytes) where
-  pub demangles-dropped : starts hash s ≡ true → Demangles s Dropped
-  unfolding demangle demangledOf
-  demangles-dropped e = record { name = rw e; within = starts-some hash s e }
+  module _ (h : starts hash s ≡ true) where
+    pub demangles-alone : length s ≡ 1 → Demangles s Fails
+    unfolding demangle demangledOf
+    demangles-alone l = record { name = rw (same-one hash s, h, eq-eqb (length s) 1 l); within = omega arith }
+
+    pub demangles-dropped : (length s ≡ 1 → ⊥) → Demangles s Dropped
+    unfolding demangle demangledOf
+    demangles-dropped l = record { name = rw (same-one hash s, h, ne-eqb (length s) 1 l); within = starts-some hash s h }
 
   module _ (h : starts hash s ≡ false) where
     pub demangles-plain : starts question s ≡ false → Demangles s Fails
     unfolding demangle demangledOf
-    demangles-plain e = record { name = rw (h, e); within = omega arith }
+    demangles-plain e = record { name = rw (same-one hash s, h, e); within = omega arith }
 
     module _ (q : starts question s ≡ true) where
       pub demangles-untagged : find tag s ≡ none → Demangles s Fails
       unfolding demangle demangledOf cut
-      demangles-untagged e = record { name = rw (h, q, e); within = omega arith }
+      demangles-untagged e = record { name = rw (same-one hash s, h, q, e); within = omega arith }
 
       module _ {at : ℕ} (e : find tag s ≡ some at) where
         pub demangles-last : at + 3 ≡ length s → Demangles s Fails
         unfolding demangle demangledOf cut
-        demangles-last l = record { name = rw (h, q, e, eq-eqb (length s) (at + 3) (sym l)); within = omega arith }
+        demangles-last l = record { name = rw (same-one hash s, h, q, e, eq-eqb (length s) (at + 3) (sym l)); within = omega arith }
 
         pub demangles-cut : (at + 3 ≡ length s → ⊥) → Demangles s (Cut at)
         unfolding demangle demangledOf cut
         demangles-cut l =
             record {
-              name = rw (h, q, e, ne-eqb (length s) (at + 3) (λ k. l (sym k)));
+              name = rw (same-one hash s, h, q, e, ne-eqb (length s) (at + 3) (λ k. l (sym k)));
               within = omega (arith, find-within tag s at e, l);
             }

@@ -73,12 +73,15 @@ pub fn mangled(name: &[u8]) -> BuiltName
     m
 }
 
-// How a name is demangled. An empty one is not.
+// How a name is demangled. An empty one is not, and `#` alone is no function's.
 pub fn get_arm64ec_demangled_function_name(name: &[u8]) -> Demangled
     ensures { λ r. ⌜ Demangles (now (name .entry)) r ⌝ }
 {
     // For non-C++ names, drop the "#" prefix.
     if starts_with(name, b'#') {
+        if name.len() == 1 {
+            return Demangled::Fails;
+        }
         return Demangled::Dropped;
     }
     if !starts_with(name, b'?') {

@@ -8,14 +8,14 @@ use native.Mathlib.Omega.{arith}
 use lib.ListN.{length}
 use lib.Dec.{eqb, leb}
 use borrow.Author.Tests.{eq-eqb, ne-eqb, lt-ltb}
-use Rattle.wire.specs.Bytes.{Bytes, if_then_else_, same, holds}
+use Rattle.wire.specs.Bytes.{Bytes, same}
 use Rattle.wire.specs.Writes.{Found}
 use Rattle.wire.proofs.Bytes.{and-first, and-each, same-refl, same-differ}
 use Rattle.wire.proofs.Writes.{found-as, found-whole, whole-found}
 use Rattle.format.specs.Machines.{known, arm64x}
 use Rattle.format.specs.Names.{stem}
 use Rattle.format.specs.Layouts.{Member, descriptor, nullDescriptor, nullThunk, short, weak, dllAt, importHeaderSize, descriptorName, nullName, compatStem, encode}
-use Rattle.format.specs.Reader.{between, admitsDll, admitsStem, ordinary, admits, thunkStringsAt, weakStringsAt, right, span, absent, stemSpan, fields, fieldsOrRefused}
+use Rattle.format.specs.Reader.{between, admitsDll, admitsStem, admitsExport, ordinary, admits, thunkStringsAt, weakStringsAt, right, span, absent, stemSpan, fields, fieldsOrRefused}
 use Rattle.format.specs.declared.Read.{Read}
 use Rattle.format.specs.declared.Read.the-variants.{Descriptor, NullDescriptor, NullThunk, ShortImport, WeakExternal, Refused}
 use Rattle.laws.proofs.ReadBack.{between-true}
@@ -114,7 +114,7 @@ module _ (m : ℕ) (s : Bytes) where
 
 module _ (m o k t : ℕ) (s dll x : Bytes) (typed : admitsTypes m k t ≡ true) (ordinal : o < 65536) where
   abbrev rest : Bool
-  rest = between 1 8190 s && admitsDll dll && between 0 (if eqb t 4 then 8190 else 0) x
+  rest = between 1 8190 s && admitsDll dll && admitsExport t x
 
   admits-short : admits (short m o k t s dll x) ≡ rest
   unfolding admits admitsTypes
@@ -126,13 +126,13 @@ module _ (m o k t : ℕ) (s dll x : Bytes) (typed : admitsTypes m k t ≡ true) 
   unfolding admitsNames
   short-unfit e = admits-short ∙ rw e
 
-  pub short-exported-by : {q : Bool} → admitsNames s dll ≡ true → t ≡ 4 → between 0 8190 x ≡ q → admits (short m o k t s dll x) ≡ q
-  unfolding admitsNames
+  pub short-exported-by : {q : Bool} → admitsNames s dll ≡ true → t ≡ 4 → between 1 8190 x ≡ q → admits (short m o k t s dll x) ≡ q
+  unfolding admitsNames admitsExport
   short-exported-by e four g = admits-short ∙ rw (e, eq-eqb t 4 four, g)
 
 pub short-unexported : (m o k t : ℕ) (s dll : Bytes) → admitsTypes m k t ≡ true → o < 65536 → admitsNames s dll ≡ true → (t ≡ 4 → ⊥)
     → admits (short m o k t s dll []) ≡ true
-unfolding admitsNames between holds
+unfolding admitsNames admitsExport same
 short-unexported m o k t s dll typed ordinal e n = admits-short m o k t s dll [] typed ordinal ∙ rw (e, ne-eqb t 4 n)
 
 -- by the number of both types that the functions look for

@@ -13,7 +13,7 @@ use Rattle.wire.proofs.Bytes.{same-longer}
 use Rattle.wire.proofs.Parts.{part-last}
 use Rattle.format.specs.Machines.{known, arm64x}
 use Rattle.format.specs.Layouts.{Member, descriptor, nullDescriptor, nullThunk, short, weak, dllAt, importHeaderSize, nullName, thunkName, encode}
-use Rattle.format.specs.Reader.{between, admitsDll, ordinary, admits, textAt, nullStringsAt, thunkStringsAt, weakStringsAt, descriptorGuess, nullGuess, thunkGuess, shortGuess, weakGuess, guess, right, read, fieldsOrRefused, readFields}
+use Rattle.format.specs.Reader.{between, admitsDll, admitsExport, ordinary, admits, textAt, nullStringsAt, thunkStringsAt, weakStringsAt, descriptorGuess, nullGuess, thunkGuess, shortGuess, weakGuess, guess, right, read, fieldsOrRefused, readFields}
 use Rattle.format.specs.declared.Read.{Read}
 use Rattle.format.specs.declared.Read.the-variants.{Refused}
 use Rattle.laws.proofs.Lengths.{length-encode-descriptor, length-encode-nullDescriptor-none, length-encode-nullDescriptor-some, length-encode-nullThunk, length-encode-short, length-encode-weak}
@@ -130,7 +130,7 @@ short-as-guessed {h} {s} {dll} b eh es ed ex n =
 short-untyped : (m o k t : ℕ) (s dll x : Bytes) → admitsTypes m k t ≡ false → admits (short m o k t s dll x) ≡ false
 unfolding admits admitsTypes
 short-untyped m o k t s dll x e =
-    pick (known m) (not (eqb m arm64x)) (ltb o 65536) (leb k 2) (leb t 4) (between 1 8190 s) (admitsDll dll) (between 0 (if eqb t 4 then 8190 else 0) x) e
+    pick (known m) (not (eqb m arm64x)) (ltb o 65536) (leb k 2) (leb t 4) (between 1 8190 s) (admitsDll dll) (admitsExport t x) e
   where
     pick : (a b q c d f g h : Bool) → (a && b && c && d) ≡ false → (a && b && q && c && d && f && g && h) ≡ false
     pick false b q c d f g h e = refl

@@ -195,7 +195,7 @@ pub fn as_short_as(
     if !texts::admits_names(symbol, dll) {
         return REFUSED;
     }
-    if !texts::fits(export, 0, MAX_SYMBOL) {
+    if !texts::fits(export, 1, MAX_SYMBOL) {
         return REFUSED;
     }
     if layouts::find_short_as(b, machine, ordinal, types, symbol, dll, export) != b.len() {

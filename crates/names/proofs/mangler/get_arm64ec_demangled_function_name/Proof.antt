@@ -5,46 +5,49 @@ use borrow.Author.Needs.{needs}
 use Rattle.wire.proofs.Bytes.{not-true, not-false}
 use Rattle.laws.proofs.Names.{find-within}
 use Rattle.search.proofs.Searches.{place-at, place-nowhere}
-use Rattle.names.proofs.Manglings.{demangles-dropped, demangles-plain, demangles-untagged, demangles-last, demangles-cut}
+use Rattle.names.proofs.Manglings.{demangles-alone, demangles-dropped, demangles-plain, demangles-untagged, demangles-last, demangles-cut}
 use Rattle.names.proofs.mangler.get_arm64ec_demangled_function_name.Statement.{statement}
 use Rattle.names.proofs.mangler.get_arm64ec_demangled_function_name.Tie as tie
 
 returns : tie.Need-returns
-returns c = demangles-dropped _ (sym (c .before .starts-with .ensures) ∙ c .if1 .taken)
+returns c = demangles-alone _ (sym (c .before .before .starts-with .ensures) ∙ c .before .if1 .taken) (c .if2 .taken)
 
 returns-2 : tie.Need-returns-2
-returns-2 c =
-    let one = c .before .before in
-    demangles-plain _ (sym (one .before .starts-with .ensures) ∙ one .if1 .left) (sym (c .before .starts-with2 .ensures) ∙ not-true _ (c .if2 .taken))
+returns-2 c = demangles-dropped _ (sym (c .before .before .starts-with .ensures) ∙ c .before .if1 .taken) (c .if2 .left)
 
 returns-3 : tie.Need-returns-3
 returns-3 c =
-    let two = c .before .before .before in
-    let one = two .before .before in
-    demangles-untagged _ (sym (one .before .starts-with .ensures) ∙ one .if1 .left) (sym (two .before .starts-with2 .ensures) ∙ not-false _ (two .if2 .left))
-    (place-nowhere _ (sym (c .before .before .find-tag .ensures) ∙ c .enum-told .given .1))
-
-add-if3 : tie.Need-add-if3
-add-if3 c = omega (arith, find-within _ _ _ (place-at _ _ (sym (c .before .before .before .find-tag .ensures) ∙ c .before .at .given .1)))
+    let one = c .before .before in
+    demangles-plain _ (sym (one .before .starts-with .ensures) ∙ one .if1 .left) (sym (c .before .starts-with2 .ensures) ∙ not-true _ (c .if3 .taken))
 
 returns-4 : tie.Need-returns-4
 returns-4 c =
-    let t = c .before .before in
-    let two = t .before .before .before in
+    let two = c .before .before .before in
     let one = two .before .before in
-    demangles-last _ (sym (one .before .starts-with .ensures) ∙ one .if1 .left) (sym (two .before .starts-with2 .ensures) ∙ not-false _ (two .if2 .left))
-    (place-at _ _ (sym (t .before .before .find-tag .ensures) ∙ t .at .given .1)) (c .if3 .taken)
+    demangles-untagged _ (sym (one .before .starts-with .ensures) ∙ one .if1 .left) (sym (two .before .starts-with2 .ensures) ∙ not-false _ (two .if3 .left))
+    (place-nowhere _ (sym (c .before .before .find-tag .ensures) ∙ c .enum-told .given .1))
+
+add-if4 : tie.Need-add-if4
+add-if4 c = omega (arith, find-within _ _ _ (place-at _ _ (sym (c .before .before .before .find-tag .ensures) ∙ c .before .at .given .1)))
 
 returns-5 : tie.Need-returns-5
 returns-5 c =
     let t = c .before .before in
     let two = t .before .before .before in
     let one = two .before .before in
-    demangles-cut _ (sym (one .before .starts-with .ensures) ∙ one .if1 .left) (sym (two .before .starts-with2 .ensures) ∙ not-false _ (two .if2 .left))
-    (place-at _ _ (sym (t .before .before .find-tag .ensures) ∙ t .at .given .1)) (c .if3 .left)
+    demangles-last _ (sym (one .before .starts-with .ensures) ∙ one .if1 .left) (sym (two .before .starts-with2 .ensures) ∙ not-false _ (two .if3 .left))
+    (place-at _ _ (sym (t .before .before .find-tag .ensures) ∙ t .at .given .1)) (c .if4 .taken)
+
+returns-6 : tie.Need-returns-6
+returns-6 c =
+    let t = c .before .before in
+    let two = t .before .before .before in
+    let one = two .before .before in
+    demangles-cut _ (sym (one .before .starts-with .ensures) ∙ one .if1 .left) (sym (two .before .starts-with2 .ensures) ∙ not-false _ (two .if3 .left))
+    (place-at _ _ (sym (t .before .before .find-tag .ensures) ∙ t .at .given .1)) (c .if4 .left)
 
 pub get-arm64ec-demangled-function-name-spec : {M : Type 1} → statement M
 get-arm64ec-demangled-function-name-spec =
     tie.close
-    (tie.spec (λ c κs. search needs) returns (λ c κs. search needs) returns-2 (λ c κs. search needs) (λ c. search needs)
-    (λ c. search needs) returns-3 add-if3 returns-4 returns-5)
+    (tie.spec (λ c κs. search needs) returns returns-2 (λ c κs. search needs) returns-3 (λ c κs. search needs) (λ c. search needs)
+    (λ c. search needs) returns-4 add-if4 returns-5 returns-6)

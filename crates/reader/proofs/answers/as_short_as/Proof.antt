@@ -34,7 +34,7 @@ find-short-as-requires c κs =
     let p = c .before .before .before .before .before .before .before .before .pre in
     let n = sym (c .before .before .before .admits-names .ensures) ∙ not-false _ (c .before .before .if1 .left) in
     let x = sym (c .before .fits2 .ensures) ∙ not-false _ (c .if2 .left) in
-    (names-most 65536 _ _ n (omega arith), (p .1 .1 .0, (p .1 .1 .1 .0, (between-most 0 8190 65536 _ x (omega arith), p .1 .1 .1 .1))))
+    (names-most 65536 _ _ n (omega arith), (p .1 .1 .0, (p .1 .1 .1 .0, (between-most 1 8190 65536 _ x (omega arith), p .1 .1 .1 .1))))
 
 returns-3 : tie.Need-returns-3
 returns-3 c =
