@@ -5,26 +5,13 @@ use Rattle.plans.proofs.Choices.{import-other, import-3, import-2, impo
 use borrow.Author.Needs.{needs}
 use Rattle.plans.proofs.choose_import.Statement.{statement}
 use Rattle.plans.proofs.choose_import.Tie as tie
-use Rattle.plans.proofs.choose_import.Reads as reads
-use Rattle.plans.proofs.choose_import.Lts as lts
-use Rattle.plans.proofs.choose_other.Reads as choose-other-reads
-use Rattle.plans.proofs.gives.Reads as gives-reads
-
-choose-other-requires : tie.Need-choose-other-requires
-choose-other-requires c κs = search needs
 
 returns : tie.Need-returns
 returns c = λ e i. c .choose-other .ensures e i ∙ import-other _ _ _ (c .before .if1 .taken)
 
-gives-requires : tie.Need-gives-requires
-gives-requires c κs = search needs
-
 returns-2 : tie.Need-returns-2
 unfolding choiceOf sourceOf
 returns-2 c = λ e i. import-3 _ _ _ (c .before .before .if1 .left) (sym (c .before .gives .ensures) ∙ c .if2 .taken)
-
-gives-requires-2 : tie.Need-gives-requires-2
-gives-requires-2 c κs = search needs
 
 returns-3 : tie.Need-returns-3
 unfolding choiceOf sourceOf
@@ -32,9 +19,6 @@ returns-3 c =
     let c₃ = c .before .before .before in
     let c₄ = c₃ .before in
     λ e i. import-2 _ _ _ (c₄ .if1 .left) (sym (c₃ .gives .ensures) ∙ c .before .before .if2 .left) (sym (c .before .gives2 .ensures) ∙ c .if3 .taken)
-
-choose-other-requires-2 : tie.Need-choose-other-requires-2
-choose-other-requires-2 c κs = search needs
 
 returns-4 : tie.Need-returns-4
 returns-4 c =
@@ -47,12 +31,5 @@ returns-4 c =
 pub choose-import-spec : {M : Type 1} → statement M
 choose-import-spec =
     tie.close
-    (tie.spec
-    choose-other-requires
-    returns
-    gives-requires
-    returns-2
-    gives-requires-2
-    returns-3
-    choose-other-requires-2
-    returns-4)
+    (tie.spec (λ c κs. search needs) returns (λ c κs. search needs) returns-2 (λ c κs. search needs) returns-3
+    (λ c κs. search needs) returns-4)

@@ -5,16 +5,10 @@ use Rattle.plans.proofs.Choices.{other-ec, other-same, other-later}
 use borrow.Author.Needs.{needs}
 use Rattle.plans.proofs.choose_other.Statement.{statement}
 use Rattle.plans.proofs.choose_other.Tie as tie
-use Rattle.plans.proofs.choose_other.Reads as reads
-use Rattle.plans.proofs.choose_other.Lts as lts
-use Rattle.wire.proofs.same.Reads as same-reads
 
 returns : tie.Need-returns
 unfolding choiceOf sourceOf
 returns c = λ e i. rw i (other-ec _ _ _ (c .if1 .taken))
-
-same-requires : tie.Need-same-requires
-same-requires c κs = search needs
 
 returns-2 : tie.Need-returns-2
 unfolding choiceOf sourceOf
@@ -25,4 +19,5 @@ unfolding choiceOf
 returns-3 c = λ e i. rw i (other-later _ _ _ (c .before .before .if1 .left) (sym (c .before .same .ensures) ∙ c .if2 .left))
 
 pub choose-other-spec : {M : Type 1} → statement M
-choose-other-spec = tie.close (tie.spec returns same-requires returns-2 returns-3)
+choose-other-spec = tie.close
+    (tie.spec returns (λ c κs. search needs) returns-2 returns-3)

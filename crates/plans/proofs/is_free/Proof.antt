@@ -3,23 +3,6 @@ use Rattle.format.specs.Plan.{free}
 use borrow.Author.Needs.{needs}
 use Rattle.plans.proofs.is_free.Statement.{statement}
 use Rattle.plans.proofs.is_free.Tie as tie
-use Rattle.plans.proofs.is_free.Reads as reads
-use Rattle.plans.proofs.is_free.Lts as lts
-
-enum-told : tie.Need-enum-told
-enum-told c = search needs
-
-enum-told-2 : tie.Need-enum-told-2
-enum-told-2 c = search needs
-
-enum-told-3 : tie.Need-enum-told-3
-enum-told-3 c = search needs
-
-enum-told-4 : tie.Need-enum-told-4
-enum-told-4 c = search needs
-
-enum-told-5 : tie.Need-enum-told-5
-enum-told-5 c = search needs
 
 returns : tie.Need-returns
 unfolding free
@@ -44,14 +27,5 @@ returns-5 c = rw (c .enum-told5 .given .1)
 pub is-free-spec : {M : Type 1} → statement M
 is-free-spec =
     tie.close
-    (tie.spec
-    enum-told
-    enum-told-2
-    enum-told-3
-    enum-told-4
-    enum-told-5
-    returns
-    returns-2
-    returns-3
-    returns-4
-    returns-5)
+    (tie.spec (λ c. search needs) (λ c. search needs) (λ c. search needs) (λ c. search needs) (λ c. search needs) returns
+    returns-2 returns-3 returns-4 returns-5)

@@ -7,35 +7,10 @@ use Rattle.plans.proofs.Choices.{mangled-prefix, mangled-already, mangl
 use borrow.Author.Needs.{needs}
 use Rattle.plans.proofs.mangle_free.Statement.{statement}
 use Rattle.plans.proofs.mangle_free.Tie as tie
-use Rattle.plans.proofs.mangle_free.Reads as reads
-use Rattle.plans.proofs.mangle_free.Lts as lts
-use Rattle.names.proofs.mangler.get_arm64ec_demangled_function_name.Reads as get-arm64ec-demangled-function-name-reads
-use Rattle.names.proofs.mangler.get_arm64ec_mangled_function_name.Reads as get-arm64ec-mangled-function-name-reads
-
-get-arm64ec-mangled-function-name-requires : tie.Need-get-arm64ec-mangled-function-name-requires
-get-arm64ec-mangled-function-name-requires c κs = search needs
-
-enum-told : tie.Need-enum-told
-enum-told c = search needs
-
-enum-told-2 : tie.Need-enum-told-2
-enum-told-2 c = search needs
 
 get-arm64ec-demangled-function-name-requires :
     tie.Need-get-arm64ec-demangled-function-name-requires
 get-arm64ec-demangled-function-name-requires c κs = search needs
-
-enum-told-3 : tie.Need-enum-told-3
-enum-told-3 c = search needs
-
-enum-told-4 : tie.Need-enum-told-4
-enum-told-4 c = search needs
-
-enum-told-5 : tie.Need-enum-told-5
-enum-told-5 c = search needs
-
-enum-told-6 : tie.Need-enum-told-6
-enum-told-6 c = search needs
 
 returns : tie.Need-returns
 unfolding shaped sourceOf
@@ -72,17 +47,6 @@ returns-5 c = λ e t x. sym (mangled-cannot true _ x t (sym (c .before .before .
 pub mangle-free-spec : {M : Type 1} → statement M
 mangle-free-spec =
     tie.close
-    (tie.spec
-    get-arm64ec-mangled-function-name-requires
-    enum-told
-    enum-told-2
-    get-arm64ec-demangled-function-name-requires
-    enum-told-3
-    enum-told-4
-    enum-told-5
-    enum-told-6
-    returns
-    returns-2
-    returns-3
-    returns-4
+    (tie.spec (λ c κs. search needs) (λ c. search needs) (λ c. search needs) get-arm64ec-demangled-function-name-requires
+    (λ c. search needs) (λ c. search needs) (λ c. search needs) (λ c. search needs) returns returns-2 returns-3 returns-4
     returns-5)

@@ -6,26 +6,10 @@ use Rattle.plans.proofs.Choices.{public-empty, public-some}
 use borrow.Author.Needs.{needs}
 use Rattle.plans.proofs.plan.Statement.{statement}
 use Rattle.plans.proofs.plan.Tie as tie
-use Rattle.plans.proofs.plan.Reads as reads
-use Rattle.plans.proofs.plan.Lts as lts
-use Rattle.plans.proofs.choose.Reads as choose-reads
-use Rattle.plans.proofs.shape_typed.Reads as shape-typed-reads
 
 returns : tie.Need-returns
 unfolding shaped
 returns c = public-empty _ _ _ _ (c .if1 .taken)
-
-choose-requires : tie.Need-choose-requires
-choose-requires c κs = search needs
-
-enum-known-name-type : tie.Need-enum-known-name-type
-enum-known-name-type c = search needs
-
-shape-typed-requires : tie.Need-shape-typed-requires
-shape-typed-requires c κs = search needs
-
-enum-told : tie.Need-enum-told
-enum-told c = search needs
 
 returns-2 : tie.Need-returns-2
 unfolding choiceOf
@@ -45,11 +29,4 @@ returns-3 c =
 pub plan-spec : {M : Type 1} → statement M
 plan-spec =
     tie.close
-    (tie.spec
-    returns
-    choose-requires
-    enum-known-name-type
-    shape-typed-requires
-    enum-told
-    returns-2
-    returns-3)
+    (tie.spec returns (λ c κs. search needs) (λ c. search needs) (λ c κs. search needs) (λ c. search needs) returns-2 returns-3)

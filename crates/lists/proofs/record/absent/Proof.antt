@@ -4,32 +4,10 @@ use Rattle.lists.proofs.Records.{absent-not, absent-by}
 use borrow.Author.Needs.{needs}
 use Rattle.lists.proofs.record.absent.Statement.{statement}
 use Rattle.lists.proofs.record.absent.Tie as tie
-use Rattle.lists.proofs.record.absent.Reads as reads
-use Rattle.lists.proofs.record.absent.Lts as lts
-use Rattle.lists.proofs.record.record_at.Reads as record-at-reads
-use Rattle.wire.proofs.u32_at.Reads as u32-at-reads
-
-record-at-requires : tie.Need-record-at-requires
-record-at-requires c κs = search needs
-
-mul-at : tie.Need-mul-at
-mul-at c = search needs
-
-add-at : tie.Need-add-at
-add-at c = search needs
-
-add-u32-at : tie.Need-add-u32-at
-add-u32-at c = search needs
-
-u32-at-requires : tie.Need-u32-at-requires
-u32-at-requires c κs = search needs
 
 returns : tie.Need-returns
 returns c = let d = c .before .before in
     absent-not _ _ _ (rw (← d .record-at .ensures) (c .before .u32-at .ensures)) (c .if1 .taken)
-
-u32-at-requires-2 : tie.Need-u32-at-requires-2
-u32-at-requires-2 c κs = search needs
 
 returns-2 : tie.Need-returns-2
 returns-2 c = let d = c .before .before .before in
@@ -40,12 +18,5 @@ returns-2 c = let d = c .before .before .before in
 pub absent-spec : {M : Type 1} → statement M
 absent-spec =
     tie.close
-    (tie.spec
-    record-at-requires
-    mul-at
-    add-at
-    add-u32-at
-    u32-at-requires
-    returns
-    u32-at-requires-2
-    returns-2)
+    (tie.spec (λ c κs. search needs) (λ c. search needs) (λ c. search needs) (λ c. search needs) (λ c κs. search needs) returns
+    (λ c κs. search needs) returns-2)

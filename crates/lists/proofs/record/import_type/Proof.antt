@@ -4,12 +4,6 @@ use Rattle.format.specs.Plan.{kind}
 use borrow.Author.Needs.{needs}
 use Rattle.lists.proofs.record.import_type.Statement.{statement}
 use Rattle.lists.proofs.record.import_type.Tie as tie
-use Rattle.lists.proofs.record.import_type.Reads as reads
-use Rattle.lists.proofs.record.import_type.Lts as lts
-use Rattle.lists.proofs.record.flags.Reads as flags-reads
-
-flags-requires : tie.Need-flags-requires
-flags-requires c κs = search needs
 
 returns : tie.Need-returns
 unfolding kind
@@ -24,4 +18,5 @@ unfolding kind
 returns-3 c = rw (← c .before .before .flags .ensures, ne-eqb _ _ (c .before .if1 .left), ne-eqb _ _ (c .if2 .left))
 
 pub import-type-spec : {M : Type 1} → statement M
-import-type-spec = tie.close (tie.spec flags-requires returns returns-2 returns-3)
+import-type-spec = tie.close
+    (tie.spec (λ c κs. search needs) returns returns-2 returns-3)

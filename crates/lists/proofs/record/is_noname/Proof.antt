@@ -2,15 +2,10 @@
 use borrow.Author.Needs.{needs}
 use Rattle.lists.proofs.record.is_noname.Statement.{statement}
 use Rattle.lists.proofs.record.is_noname.Tie as tie
-use Rattle.lists.proofs.record.is_noname.Reads as reads
-use Rattle.lists.proofs.record.is_noname.Lts as lts
-use Rattle.lists.proofs.record.flags.Reads as flags-reads
-
-flags-requires : tie.Need-flags-requires
-flags-requires c κs = search needs
 
 returns : tie.Need-returns
 returns c = rw (c .flags .ensures)
 
 pub is-noname-spec : {M : Type 1} → statement M
-is-noname-spec = tie.close (tie.spec flags-requires returns)
+is-noname-spec = tie.close
+    (tie.spec (λ c κs. search needs) returns)

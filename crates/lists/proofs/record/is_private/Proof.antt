@@ -2,15 +2,10 @@
 use borrow.Author.Needs.{needs}
 use Rattle.lists.proofs.record.is_private.Statement.{statement}
 use Rattle.lists.proofs.record.is_private.Tie as tie
-use Rattle.lists.proofs.record.is_private.Reads as reads
-use Rattle.lists.proofs.record.is_private.Lts as lts
-use Rattle.lists.proofs.record.flags.Reads as flags-reads
-
-flags-requires : tie.Need-flags-requires
-flags-requires c κs = search needs
 
 returns : tie.Need-returns
 returns c = rw (c .flags .ensures)
 
 pub is-private-spec : {M : Type 1} → statement M
-is-private-spec = tie.close (tie.spec flags-requires returns)
+is-private-spec = tie.close
+    (tie.spec (λ c κs. search needs) returns)

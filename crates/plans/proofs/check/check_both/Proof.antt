@@ -7,12 +7,6 @@ use Rattle.plans.proofs.Accepting.{both-stop, both-on}
 use borrow.Author.Needs.{needs}
 use Rattle.plans.proofs.check.check_both.Statement.{statement}
 use Rattle.plans.proofs.check.check_both.Tie as tie
-use Rattle.plans.proofs.check.check_both.Reads as reads
-use Rattle.plans.proofs.check.check_both.Lts as lts
-use Rattle.coff.proofs.machines.first_machine.Reads as first-machine-reads
-use Rattle.coff.proofs.machines.native_machine.Reads as native-machine-reads
-use Rattle.plans.proofs.check.check_names.Reads as check-names-reads
-use Rattle.wire.proofs.u32_at.Reads as u32-at-reads
 
 u32-at-requires : tie.Need-u32-at-requires
 u32-at-requires c κs = let l = listed _ (c .before .pre .0) in omega (arith, l .shape .headed)
@@ -25,15 +19,6 @@ add-both c =
     let c₃ = c .before .before .before in
     let l = listed _ (c₃ .pre .0) in omega (arith, l .shape .firsts, l .shape .natives, c .before .u32-at .ensures, c .u32-at2 .ensures)
 
-first-machine-requires : tie.Need-first-machine-requires
-first-machine-requires c κs = search needs
-
-check-names-requires : tie.Need-check-names-requires
-check-names-requires c κs = search needs
-
-enum-known-firsts : tie.Need-enum-known-firsts
-enum-known-firsts c = search needs
-
 returns : tie.Need-returns
 returns c =
     let c₃ = c .before .before .before in
@@ -41,15 +26,6 @@ returns c =
     let c₆ = c₄ .before .before in
     λ compat. both-stop _ _ _ _ _ (c₆ .u32-at .ensures)
     (rw (c₄ .first-machine .ensures .0) at (sym (c₃ .check-names .ensures) ∙ c .before .firsts .given .1))
-
-enum-told : tie.Need-enum-told
-enum-told c = search needs
-
-native-machine-requires : tie.Need-native-machine-requires
-native-machine-requires c κs = search needs
-
-check-names-requires-2 : tie.Need-check-names-requires-2
-check-names-requires-2 c κs = search needs
 
 returns-2 : tie.Need-returns-2
 returns-2 c =
@@ -64,15 +40,5 @@ returns-2 c =
 pub check-both-spec : {M : Type 1} → statement M
 check-both-spec =
     tie.close
-    (tie.spec
-    u32-at-requires
-    u32-at-requires-2
-    add-both
-    first-machine-requires
-    check-names-requires
-    enum-known-firsts
-    returns
-    enum-told
-    native-machine-requires
-    check-names-requires-2
-    returns-2)
+    (tie.spec u32-at-requires u32-at-requires-2 add-both (λ c κs. search needs) (λ c κs. search needs) (λ c. search needs)
+    returns (λ c. search needs) (λ c κs. search needs) (λ c κs. search needs) returns-2)

@@ -5,29 +5,9 @@ use Rattle.plans.proofs.Accepting.{accept-1, accept-stop, accept-on}
 use borrow.Author.Needs.{needs}
 use Rattle.plans.proofs.check.check_exports.Statement.{statement}
 use Rattle.plans.proofs.check.check_exports.Tie as tie
-use Rattle.plans.proofs.check.check_exports.Reads as reads
-use Rattle.plans.proofs.check.check_exports.Lts as lts
-use Rattle.coff.proofs.machines.find_machine.Reads as find-machine-reads
-use Rattle.lists.proofs.check_list.Reads as check-list-reads
-use Rattle.plans.proofs.check.check_both.Reads as check-both-reads
-
-find-machine-requires : tie.Need-find-machine-requires
-find-machine-requires c κs = search needs
-
-enum-known-m : tie.Need-enum-known-m
-enum-known-m c = search needs
-
-enum-told : tie.Need-enum-told
-enum-told c = search needs
 
 returns : tie.Need-returns
 returns c = λ compat. accept-1 _ _ (unknown-number _ (sym (c .before .before .find-machine .ensures) ∙ c .enum-told .given .1))
-
-check-list-requires : tie.Need-check-list-requires
-check-list-requires c κs = search needs
-
-enum-known-list : tie.Need-enum-known-list
-enum-known-list c = search needs
 
 returns-2 : tie.Need-returns-2
 returns-2 c =
@@ -36,9 +16,6 @@ returns-2 c =
     let c₇ = c₅ .before .before in
     λ compat. accept-stop _ _ _ _ (known-number _ _ (sym (c₇ .find-machine .ensures) ∙ c₅ .m .given .1))
     (sym (c₃ .check-list .ensures) ∙ c .before .list .given .1)
-
-enum-told-2 : tie.Need-enum-told-2
-enum-told-2 c = search needs
 
 check-both-requires : tie.Need-check-both-requires
 check-both-requires c κs =
@@ -57,14 +34,5 @@ returns-3 c =
 pub check-exports-spec : {M : Type 1} → statement M
 check-exports-spec =
     tie.close
-    (tie.spec
-    find-machine-requires
-    enum-known-m
-    enum-told
-    returns
-    check-list-requires
-    enum-known-list
-    returns-2
-    enum-told-2
-    check-both-requires
-    returns-3)
+    (tie.spec (λ c κs. search needs) (λ c. search needs) (λ c. search needs) returns (λ c κs. search needs) (λ c. search needs)
+    returns-2 (λ c. search needs) check-both-requires returns-3)

@@ -8,29 +8,9 @@ use Rattle.plans.proofs.Publics.{public-base, public-renamed, string-le
 use borrow.Author.Needs.{needs}
 use Rattle.plans.proofs.check.check_name.Statement.{statement}
 use Rattle.plans.proofs.check.check_name.Tie as tie
-use Rattle.plans.proofs.check.check_name.Reads as reads
-use Rattle.plans.proofs.check.check_name.Lts as lts
-use Rattle.lists.proofs.record.absent.Reads as absent-reads
-use Rattle.lists.proofs.record.base.Reads as base-reads
-use Rattle.lists.proofs.record.is_private.Reads as is-private-reads
-use Rattle.lists.proofs.record.string.Reads as string-reads
-use Rattle.names.proofs.rename.replace.Reads as replace-reads
-use Rattle.plans.proofs.check.check_named.Reads as check-named-reads
-
-is-private-requires : tie.Need-is-private-requires
-is-private-requires c κs = search needs
 
 returns : tie.Need-returns
 returns c = names-private _ _ _ _ (sym (c .before .is-private .ensures) ∙ c .if1 .taken)
-
-absent-requires : tie.Need-absent-requires
-absent-requires c κs = search needs
-
-base-requires : tie.Need-base-requires
-base-requires c κs = search needs
-
-check-named-requires : tie.Need-check-named-requires
-check-named-requires c κs = search needs
 
 returns-2 : tie.Need-returns-2
 returns-2 c =
@@ -39,15 +19,6 @@ returns-2 c =
     let c₅ = c₄ .before in
     c .check-named .ensures ∙ names-by _ _ _ _ _ (sym (c₅ .is-private .ensures) ∙ c₄ .if1 .left)
     (public-base _ _ (sym (c₃ .absent .ensures) ∙ c .before .before .if2 .taken) ∙ ap some (sym (c .before .base .ensures)))
-
-base-requires-2 : tie.Need-base-requires-2
-base-requires-2 c κs = search needs
-
-string-requires : tie.Need-string-requires
-string-requires c κs = search needs
-
-string-requires-2 : tie.Need-string-requires-2
-string-requires-2 c κs = search needs
 
 replace-requires : tie.Need-replace-requires
 replace-requires c κs = let h = c .before .before .before .before .before .before .before .before .pre in (
@@ -67,15 +38,6 @@ returns-3 c =
     names-11 _ _ _ _ (sym (c₈ .is-private .ensures) ∙ c₇ .if1 .left)
     (public-renamed _ _ _ _ _ _ (sym (c₆ .absent .ensures) ∙ c₅ .if2 .left) (c₄ .base2 .ensures) (c₃ .string .ensures) (c .before .before .string2 .ensures) (c .before .replace .ensures .fails (not-true _ (c .if3 .taken))))
 
-array-share-prefix-bytes : tie.Need-array-share-prefix-bytes
-array-share-prefix-bytes c = search needs
-
-slice-aggregate-check-named : tie.Need-slice-aggregate-check-named
-slice-aggregate-check-named c = search needs
-
-check-named-requires-2 : tie.Need-check-named-requires-2
-check-named-requires-2 c κs = search needs
-
 returns-4 : tie.Need-returns-4
 returns-4 c =
     let c₄ = c .before .before .before .before in
@@ -93,19 +55,6 @@ returns-4 c =
 pub check-name-spec : {M : Type 1} → statement M
 check-name-spec =
     tie.close
-    (tie.spec
-    is-private-requires
-    returns
-    absent-requires
-    base-requires
-    check-named-requires
-    returns-2
-    base-requires-2
-    string-requires
-    string-requires-2
-    replace-requires
-    returns-3
-    array-share-prefix-bytes
-    slice-aggregate-check-named
-    check-named-requires-2
-    returns-4)
+    (tie.spec (λ c κs. search needs) returns (λ c κs. search needs) (λ c κs. search needs) (λ c κs. search needs) returns-2
+    (λ c κs. search needs) (λ c κs. search needs) (λ c κs. search needs) replace-requires returns-3 (λ c. search needs)
+    (λ c. search needs) (λ c κs. search needs) returns-4)

@@ -9,29 +9,9 @@ use Rattle.plans.proofs.Answering.{key-private, key-by, key-11}
 use borrow.Author.Needs.{needs}
 use Rattle.plans.proofs.keys.key_is.Statement.{statement}
 use Rattle.plans.proofs.keys.key_is.Tie as tie
-use Rattle.plans.proofs.keys.key_is.Reads as reads
-use Rattle.plans.proofs.keys.key_is.Lts as lts
-use Rattle.lists.proofs.record.absent.Reads as absent-reads
-use Rattle.lists.proofs.record.base.Reads as base-reads
-use Rattle.lists.proofs.record.is_private.Reads as is-private-reads
-use Rattle.lists.proofs.record.string.Reads as string-reads
-use Rattle.names.proofs.rename.replace.Reads as replace-reads
-use Rattle.plans.proofs.keys.key_named.Reads as key-named-reads
-
-is-private-requires : tie.Need-is-private-requires
-is-private-requires c κs = search needs
 
 returns : tie.Need-returns
 returns c = key-private _ _ _ _ _ (sym (c .before .is-private .ensures) ∙ c .if1 .taken)
-
-absent-requires : tie.Need-absent-requires
-absent-requires c κs = search needs
-
-base-requires : tie.Need-base-requires
-base-requires c κs = search needs
-
-key-named-requires : tie.Need-key-named-requires
-key-named-requires c κs = search needs
 
 returns-2 : tie.Need-returns-2
 returns-2 c =
@@ -40,15 +20,6 @@ returns-2 c =
     let c₅ = c₄ .before in
     c .key-named .ensures ∙ key-by _ _ _ _ _ _ (sym (c₅ .is-private .ensures) ∙ c₄ .if1 .left)
     (public-base _ _ (sym (c₃ .absent .ensures) ∙ c .before .before .if2 .taken) ∙ ap some (sym (c .before .base .ensures)))
-
-base-requires-2 : tie.Need-base-requires-2
-base-requires-2 c κs = search needs
-
-string-requires : tie.Need-string-requires
-string-requires c κs = search needs
-
-string-requires-2 : tie.Need-string-requires-2
-string-requires-2 c κs = search needs
 
 replace-requires : tie.Need-replace-requires
 replace-requires c κs = let h = c .before .before .before .before .before .before .before .before .before .pre .0 in (
@@ -68,15 +39,6 @@ returns-3 c =
     key-11 _ _ _ _ _ (sym (c₈ .is-private .ensures) ∙ c₇ .if1 .left)
     (public-renamed _ _ _ _ _ _ (sym (c₆ .absent .ensures) ∙ c₅ .if2 .left) (c₄ .base2 .ensures) (c₃ .string .ensures) (c .before .before .string2 .ensures) (c .before .replace .ensures .fails (not-true _ (c .if3 .taken))))
 
-array-share-prefix-bytes : tie.Need-array-share-prefix-bytes
-array-share-prefix-bytes c = search needs
-
-slice-aggregate-key-named : tie.Need-slice-aggregate-key-named
-slice-aggregate-key-named c = search needs
-
-key-named-requires-2 : tie.Need-key-named-requires-2
-key-named-requires-2 c κs = search needs
-
 returns-4 : tie.Need-returns-4
 returns-4 c =
     let c₄ = c .before .before .before .before in
@@ -94,19 +56,6 @@ returns-4 c =
 pub key-is-spec : {M : Type 1} → statement M
 key-is-spec =
     tie.close
-    (tie.spec
-    is-private-requires
-    returns
-    absent-requires
-    base-requires
-    key-named-requires
-    returns-2
-    base-requires-2
-    string-requires
-    string-requires-2
-    replace-requires
-    returns-3
-    array-share-prefix-bytes
-    slice-aggregate-key-named
-    key-named-requires-2
-    returns-4)
+    (tie.spec (λ c κs. search needs) returns (λ c κs. search needs) (λ c κs. search needs) (λ c κs. search needs) returns-2
+    (λ c κs. search needs) (λ c κs. search needs) (λ c κs. search needs) replace-requires returns-3 (λ c. search needs)
+    (λ c. search needs) (λ c κs. search needs) returns-4)
