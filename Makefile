@@ -8,7 +8,7 @@ sources := crates.txt $(shell find crates -name '*.rt' -o -name '*.antt')
 test:
 	@tools/test
 
-# The main job on an example: a member set and its members written, shown, and symbols looked up.
+# The main job on an example: a total asked for, a member set and its members written, shown, and symbols looked up.
 example:
 	@tools/example
 

@@ -1,6 +1,7 @@
-/* Writes the members of att.dll with one export, att_step with ordinal 5, and prints what came of it. */
+/* Asks for the total of att.dll with one export, att_step with ordinal 5, writes its members, and prints what came of it. */
 #include "crepedum.h"
 #include <stdio.h>
+#include <stdlib.h>
 #include <string.h>
 
 enum { HEADER = 28, RECORD = 44, SET_HEADER = 16, MACHINE_AMD64 = 0x8664 };
@@ -33,20 +34,19 @@ static void show(const char *what, const uint8_t *bytes, size_t length) {
     printf("\n");
 }
 
-static uint64_t write_into(uint8_t *out, size_t room) {
+int main(void) {
     uint8_t list[HEADER + RECORD + sizeof names];
     size_t length = make_list(list);
-    return crepedum_write(list, length, MACHINE_AMD64, false, false, out, room);
-}
-
-int main(void) {
-    static uint8_t out[1024];
-    uint64_t total = write_into(out, sizeof out);
+    uint64_t total = crepedum_total(list, length, MACHINE_AMD64, false, false);
     if (total >> 32) return 1;
     printf("total %u\n", (unsigned)total);
+    uint8_t *out = malloc(total);
+    if (!out) return 1;
+    uint64_t refusal = crepedum_write(list, length, MACHINE_AMD64, false, false, out, total - 1);
+    printf("one byte less: refusal %u, place %u\n", (unsigned)(refusal >> 32), (unsigned)refusal);
+    if (crepedum_write(list, length, MACHINE_AMD64, false, false, out, total) != total) return 1;
     show("header", out, SET_HEADER);
     show("import", out + total - 37, 37);
-    uint64_t refusal = write_into(out, (size_t)total - 1);
-    printf("one byte less: refusal %u, place %u\n", (unsigned)(refusal >> 32), (unsigned)refusal);
+    free(out);
     return 0;
 }

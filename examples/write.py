@@ -7,17 +7,13 @@ import sys
 MACHINE_AMD64 = 0x8664
 NAMES = b"att.dllatt_step"
 
+ASKED = [ctypes.c_char_p, ctypes.c_size_t, ctypes.c_uint32, ctypes.c_bool, ctypes.c_bool]
+
 library = ctypes.CDLL(sys.argv[1])
+library.crepedum_total.restype = ctypes.c_uint64
+library.crepedum_total.argtypes = ASKED
 library.crepedum_write.restype = ctypes.c_uint64
-library.crepedum_write.argtypes = [
-    ctypes.c_char_p,
-    ctypes.c_size_t,
-    ctypes.c_uint32,
-    ctypes.c_bool,
-    ctypes.c_bool,
-    ctypes.c_char_p,
-    ctypes.c_size_t,
-]
+library.crepedum_write.argtypes = ASKED + [ctypes.c_char_p, ctypes.c_size_t]
 
 
 def make_list():
@@ -27,20 +23,14 @@ def make_list():
     return header + record + NAMES
 
 
-def write_into(out, room):
-    """The total, or a refusal's number and place."""
-    listed = make_list()
-    answer = library.crepedum_write(
-        listed, len(listed), MACHINE_AMD64, False, False, out, room
-    )
-    return divmod(answer, 1 << 32)
-
-
-out = ctypes.create_string_buffer(1024)
-number, total = write_into(out, len(out))
+listed = make_list()
+asked = (listed, len(listed), MACHINE_AMD64, False, False)
+number, total = divmod(library.crepedum_total(*asked), 1 << 32)
 assert number == 0
 print("total", total)
-print("header", out.raw[:16].hex(" "))
-print("import", out.raw[total - 37 : total].hex(" "))
-number, place = write_into(out, total - 1)
+out = ctypes.create_string_buffer(total)
+number, place = divmod(library.crepedum_write(*asked, out, total - 1), 1 << 32)
 print(f"one byte less: refusal {number}, place {place}")
+assert library.crepedum_write(*asked, out, total) == total
+print("header", out.raw[:16].hex(" "))
+print("import", out.raw[total - 37 :].hex(" "))

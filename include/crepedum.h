@@ -8,9 +8,13 @@
 /* Checks an export list: 0 where no refusal from 1 to 14 applies, else the refusal's number times 2^32, plus its place. */
 uint64_t crepedum_check(const uint8_t *list, size_t list_len, uint32_t machine, bool mingw);
 
-/* Writes the member set of an export list into out, of out_len bytes. Returns the total (below 2^32), or the refusal's number times
-   2^32, plus its place; 15, for too little room, comes last. On a refusal all of out is as before; on success what stands beyond the
-   total is. list and out must not overlap. */
+/* Asks how large the member set of an export list is, so that room can be reserved: the total (below 2^32), or the number of a refusal
+   from 1 to 14 times 2^32, plus its place. Nothing is written. */
+uint64_t crepedum_total(const uint8_t *list, size_t list_len, uint32_t machine, bool mingw, bool whole_archive_compat);
+
+/* Writes the member set of an export list into out, of out_len bytes, whether or not anybody asked for its total. Returns what
+   crepedum_total returns, but 15 times 2^32 where that is a total larger than out_len. On a refusal all of out is as before; on success
+   what stands beyond the total is. list and out must not overlap. */
 uint64_t crepedum_write(const uint8_t *list, size_t list_len, uint32_t machine, bool mingw, bool whole_archive_compat, uint8_t *out, size_t out_len);
 
 /* Reads a member: 1 import descriptor, 2 null import descriptor, 3 null thunk, 4 short import, 5 weak external. The first 11

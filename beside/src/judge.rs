@@ -102,9 +102,10 @@ impl Question {
         ))
     }
 
-    /// Compares the check and, in several rooms, each writer.
+    /// Compares the check, the total asked for and, in several rooms, each writer.
     pub fn judge(&self, wanted: &Wanted) -> Result<(), Difference> {
         self.judge_check(wanted)?;
+        self.judge_total(wanted)?;
         match wanted {
             Ok(set) => {
                 for room in [set.len() + GUARD, set.len(), set.len() - 1, 0] {
@@ -127,6 +128,15 @@ impl Question {
             return Ok(());
         }
         Err(self.differs(&format!("crepedum_check: wanted {wanted:?}, got {got:?}")))
+    }
+
+    fn judge_total(&self, wanted: &Wanted) -> Result<(), Difference> {
+        let wanted = wanted.as_ref().map(Vec::len).map_err(|refusal| *refusal);
+        let got = library::total(&self.list, self.options);
+        if got == wanted {
+            return Ok(());
+        }
+        Err(self.differs(&format!("crepedum_total: wanted {wanted:?}, got {got:?}")))
     }
 
     /// Compares each writer in one room: its answer, the set, and that every other byte stays as it was.

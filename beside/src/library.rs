@@ -16,6 +16,17 @@ pub fn check(list: &[u8], machine: u32, mingw: bool) -> Option<Refusal> {
     refusal(word)
 }
 
+/// Asks for the total of a list's member set, or the refusal's number and place.
+pub fn total(list: &[u8], options: Options) -> Result<usize, Refusal> {
+    let Options {
+        machine,
+        mingw,
+        compat,
+    } = options;
+    let word = raw::total(list, machine, mingw, compat);
+    refusal(word).map_or(Ok(word as usize), Err)
+}
+
 /// Writes the member set of a list and returns its total, or the refusal's number and place.
 pub fn write(list: &[u8], options: Options, out: &mut [u8]) -> Result<usize, Refusal> {
     let Options {

@@ -1,7 +1,7 @@
 //! The members of Windows import libraries, written, read back and looked up by the proved library.
 //!
-//! `ExportList` makes a list, `write` writes its member set, `MemberSet` walks over one, `read` reads a member and `lookup`
-//! says where a symbol leads. Every function takes any bytes; what it cannot take is a `Refusal`.
+//! `ExportList` makes a list, `total` asks how large its member set is and `write` writes it, `MemberSet` walks over one, `read`
+//! reads a member and `lookup` says where a symbol leads. Every function takes any bytes; what it cannot take is a `Refusal`.
 
 mod list;
 mod machine;
@@ -40,6 +40,17 @@ pub fn check(list: &[u8], machine: Machine, mingw: bool) -> Result<(), Refusal> 
     Refusal::of(raw::check(list, machine.0, mingw)).map_or(Ok(()), Err)
 }
 
+/// How many bytes the member set of a list has. Whoever lends `write_into` as many is not refused.
+pub fn total(list: &[u8], options: Options) -> Result<usize, Refusal> {
+    let Options {
+        machine,
+        mingw,
+        whole_archive_compat,
+    } = options;
+    let answer = raw::total(list, machine.0, mingw, whole_archive_compat);
+    Refusal::of(answer).map_or(Ok(answer as usize), Err)
+}
+
 /// Writes the member set of a list into `out` and returns its total. On a refusal `out` is as it was.
 pub fn write_into(list: &[u8], options: Options, out: &mut [u8]) -> Result<usize, Refusal> {
     let Options {
@@ -53,16 +64,7 @@ pub fn write_into(list: &[u8], options: Options, out: &mut [u8]) -> Result<usize
 
 /// The member set of a list.
 pub fn write(list: &[u8], options: Options) -> Result<Vec<u8>, Refusal> {
-    // The library does not tell a total before it writes, so the room doubles until it is enough.
-    let mut set = vec![0; 4 * list.len() + 1024];
-    loop {
-        match write_into(list, options, &mut set) {
-            Err(Refusal::Room) => set.resize(2 * set.len(), 0),
-            Err(refusal) => return Err(refusal),
-            Ok(total) => {
-                set.truncate(total);
-                return Ok(set);
-            }
-        }
-    }
+    let mut set = vec![0; total(list, options)?];
+    write_into(list, options, &mut set)?;
+    Ok(set)
 }

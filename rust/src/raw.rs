@@ -4,6 +4,14 @@ mod c {
     unsafe extern "C" {
         pub fn crepedum_check(list: *const u8, list_len: usize, machine: u32, mingw: bool) -> u64;
 
+        pub fn crepedum_total(
+            list: *const u8,
+            list_len: usize,
+            machine: u32,
+            mingw: bool,
+            whole_archive_compat: bool,
+        ) -> u64;
+
         pub fn crepedum_write(
             list: *const u8,
             list_len: usize,
@@ -38,6 +46,21 @@ mod c {
 pub fn check(list: &[u8], machine: u32, mingw: bool) -> u64 {
     // SAFETY: the pointer and length are those of a slice, which the library only reads.
     unsafe { c::crepedum_check(list.as_ptr(), list.len(), machine, mingw) }
+}
+
+/// The total of the set, or the refusal's number times 2^32, plus its place.
+#[inline]
+pub fn total(list: &[u8], machine: u32, mingw: bool, whole_archive_compat: bool) -> u64 {
+    // SAFETY: the pointer and length are those of a slice, which the library only reads.
+    unsafe {
+        c::crepedum_total(
+            list.as_ptr(),
+            list.len(),
+            machine,
+            mingw,
+            whole_archive_compat,
+        )
+    }
 }
 
 /// The total of the set, which then stands in `out`, or the refusal's number times 2^32, plus its place.

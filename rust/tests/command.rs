@@ -128,6 +128,24 @@ fn a_set_and_its_members_are_written() {
 }
 
 #[test]
+fn the_total_is_what_is_written() {
+    let folder = Folder::new("total");
+    for options in ["", " --mingw", " --whole-archive-compat"] {
+        let asked = folder.say(&format!("total att.list --machine i386{options}"));
+        let written = folder.say(&format!("write att.list --machine i386{options} -o -"));
+        let length = written.succeeded().out.len();
+        assert_eq!(asked.succeeded().text(), format!("{length}\n"));
+    }
+    let list = ExportList::new("a.dll").export(Export::new("f"));
+    let list = list.export(Export::new("?f")).encode();
+    for words in [&["total"][..], &["write", "-o", "-"]] {
+        let words = [words, &["-", "--machine", "arm64ec"]].concat();
+        folder.run(&words, &list).failed(13, "refusal 13, place 1 ");
+    }
+    assert_eq!(folder.names(), ["att.list"]);
+}
+
+#[test]
 fn a_symbol_leads_no_file_out_of_its_folder() {
     let folder = Folder::new("inside");
     let long = "n".repeat(4095);
@@ -393,6 +411,9 @@ fn a_wrong_use_is_64() {
         ),
         ("write att.list other --machine amd64 -o x", "wanted: LIST"),
         ("write att.list --paint", "no option is `--paint`"),
+        ("total", "wanted: LIST"),
+        ("total att.list", "--machine is to be given"),
+        ("total att.list --machine amd64 -o x", "no option is `-o`"),
         ("show", "wanted: SET|MEMBER"),
         ("lookup att.set", "wanted: SET SYMBOL"),
         ("lookup att.set att_step --list 3", "--list is 1 or 2"),
@@ -420,6 +441,7 @@ fn a_file_that_cannot_be_had_is_74() {
         "write att.list --machine amd64 --members none/x",
         "write att.list --machine amd64 -o x --members there",
         "write att.list --machine amd64 -o there --members x",
+        "total none.list --machine amd64",
         "show none.set",
         "lookup none.set f",
     ] {
@@ -455,6 +477,10 @@ fn each_command_has_help() {
     let folder = Folder::new("help");
     for (line, words) in [
         ("--help", "crepedum COMMAND --help"),
+        (
+            "total --help",
+            "usage: crepedum total LIST --machine MACHINE",
+        ),
         (
             "write --help",
             "usage: crepedum write LIST --machine MACHINE",

@@ -2,7 +2,7 @@
 
 use crepedum::{
     Export, ExportList, Kind, Led, Machine, Member, MemberSet, NameType, Options, Refusal, check,
-    lookup, read, write, write_into,
+    lookup, read, total, write, write_into,
 };
 
 const AMD64: Options = Options {
@@ -93,7 +93,7 @@ fn every_symbol_of_a_member_is_found() {
 }
 
 #[test]
-fn room_grows_until_it_is_enough() {
+fn the_room_asked_for_is_exactly_enough() {
     let aliases = (0..200).map(|k| Export::new(format!("a{k}")).import_name("f"));
     let list = aliases
         .fold(
@@ -101,17 +101,24 @@ fn room_grows_until_it_is_enough() {
             ExportList::export,
         )
         .encode();
-    let set = write(&list, AMD64).expect("the list is good");
-    assert!(
-        set.len() > 4 * list.len() + 1024,
-        "the first room is too small"
-    );
-    let mut out = vec![7; set.len() - 1];
-    assert_eq!(write_into(&list, AMD64, &mut out), Err(Refusal::Room));
-    assert!(
-        out.iter().all(|byte| *byte == 7),
-        "a refusal changes nothing"
-    );
+    let compat = Options {
+        whole_archive_compat: true,
+        ..AMD64
+    };
+    for options in [AMD64, compat] {
+        let room = total(&list, options).expect("the list is good");
+        let mut out = vec![7; room];
+        assert_eq!(
+            write_into(&list, options, &mut out[1..]),
+            Err(Refusal::Room)
+        );
+        assert!(
+            out.iter().all(|byte| *byte == 7),
+            "a refusal changes nothing"
+        );
+        assert_eq!(write_into(&list, options, &mut out), Ok(room));
+        assert_eq!(write(&list, options), Ok(out));
+    }
 }
 
 #[test]
@@ -128,6 +135,7 @@ fn machines_have_names() {
 fn refused(list: &[u8]) -> Refusal {
     let machine = Machine::ARM64EC;
     let refusal = check(list, machine, false).expect_err("the list is bad");
+    assert_eq!(total(list, Options::new(machine)), Err(refusal));
     assert_eq!(write(list, Options::new(machine)), Err(refusal));
     refusal
 }

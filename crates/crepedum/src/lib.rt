@@ -8,7 +8,7 @@ ghost use mathlib.Core.Path.{_≡_};
 ghost use mathlib.Core.Bool.{Bool};
 ghost use lib.ListN.{length};
 ghost use Rattle.format.specs.Refusals.{checkExports};
-ghost use Rattle.format.specs.Answers.{written, outputAfter};
+ghost use Rattle.format.specs.Answers.{asked, written, outputAfter};
 ghost use Rattle.crepedum.specs.Words.{checkWord, writtenWord};
 
 // An answer of a check as one number: 0, or the refusal's number times 2^32, plus its place.
@@ -29,7 +29,7 @@ pub extern "C" fn crepedum_check(list: &[u8], machine: u32, mingw: bool) -> u64
     check_word(plans::check::check_exports(list, machine, mingw))
 }
 
-// An answer of the writer as one number: the total, or the refusal's number times 2^32, plus its place.
+// An answer of asking or writing as one number: the total, or the refusal's number times 2^32, plus its place.
 fn written_word(w: Written) -> u64
     ensures { λ r. ⌜ r ≡ writtenWord w ⌝ }
 {
@@ -37,6 +37,19 @@ fn written_word(w: Written) -> u64
         Written::Total(n) => n as u64,
         Written::Refused { number, place } => (number as u64) * 4294967296 + (place as u64),
     }
+}
+
+// Asks for the total of the member set of any bytes: refusals 1 to 14, and nothing is written.
+#[no_mangle]
+pub extern "C" fn crepedum_total(
+    list: &[u8],
+    machine: u32,
+    mingw: bool,
+    whole_archive_compat: bool,
+) -> u64
+    ensures { λ r. ⌜ r ≡ writtenWord (asked (record { machine = machine; mingw = mingw; compat = «whole_archive_compat» }) (now (list .entry))) ⌝ }
+{
+    written_word(library::total(list, machine, mingw, whole_archive_compat))
 }
 
 // Writes the member set of any bytes.

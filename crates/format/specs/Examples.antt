@@ -19,7 +19,7 @@ use Rattle.format.specs.Layouts.{Member, descriptor, nullDescriptor, nul
 use Rattle.format.specs.Library as Library
 use Rattle.format.specs.Library.{Options, imp, firstMembers, nativeMembers, memberSet}
 use Rattle.format.specs.Refusals as Refusals
-use Rattle.format.specs.Refusals.{checkExports, checkAll}
+use Rattle.format.specs.Refusals.{checkExports}
 use Rattle.format.specs.Reader as Reader
 use Rattle.format.specs.Reader.{readFields, span}
 use Rattle.format.specs.Lookup as Lookup
@@ -33,7 +33,7 @@ use Rattle.format.specs.declared.Read.the-variants as R
 use Rattle.format.specs.declared.Looked.the-variants as L
 use Rattle.format.specs.declared.Written.the-variants as W
 use Rattle.format.specs.Answers as Answers
-use Rattle.format.specs.Answers.{written, outputAfter}
+use Rattle.format.specs.Answers.{asked, written, outputAfter}
 use Rattle.format.specs.Library.{setBytes}
 use lib.ListN.{replicate}
 
@@ -148,8 +148,8 @@ pub table :
     -- P1
     (numbers 10 (memberSet (on amd64) (list [])) ≡ 3 ∷ 0 ∷ 0 ∷ 40 ∷ 40 ∷ 358 ∷ 398 ∷ 127 ∷ 525 ∷ 159 ∷ [])
     × (length (memberSet (on amd64) (list [])) ≡ 684)
-    × (checkAll (on amd64) (list []) 684 ≡ Fine)
-    × (checkAll (on amd64) (list []) 683 ≡ Refused 15 0)
+    × (written (on amd64) (list []) 684 ≡ W.Total 684)
+    × (written (on amd64) (list []) 683 ≡ W.Refused 15 0)
     -- P2, with the null thunk's symbol table at 108
     × (numbers 10 (memberSet (on i386) (list [])) ≡ 3 ∷ 0 ∷ 0 ∷ 40 ∷ 40 ∷ 358 ∷ 398 ∷ 127 ∷ 525 ∷ 151 ∷ [])
     × (length (memberSet (on i386) (list [])) ≡ 676)
@@ -230,8 +230,8 @@ pub table :
     × (readFields (encode (exporting arm64ec "#" "")) ≡ R.Refused 16 0)
     × (readFields (encode (weak amd64 [] (ascii "a"))) ≡ R.Refused 16 0)
     -- refusals: order and places
-    × (checkAll (on 0x1014C) [] 0 ≡ Refused 1 0)
-    × (checkAll (on amd64) (part (list []) 0 27) 0 ≡ Refused 2 0)
+    × (written (on 0x1014C) [] 0 ≡ W.Refused 1 0)
+    × (written (on amd64) (part (list []) 0 27) 0 ≡ W.Refused 2 0)
     × (checkExports (on amd64) (le32 4097 ++ drop 4 (list [])) ≡ Refused 3 0)
     × (checkExports (on amd64) (le32 4096 ++ le32 4096 ++ drop 8 (list [])) ≡ Refused 4 0)
     × (checkExports (on amd64) (le32 0 ++ le32 0 ++ le32 29 ++ drop 12 (list [])) ≡ Refused 4 0)
@@ -276,8 +276,10 @@ pub table :
     × (lookup (le32 3 ++ le32 1 ++ drop 8 (memberSet (on amd64) (list []))) 1 [] ≡ L.Refused 17 0)
     × (lookup (setBytes 0 0 (map encode (nullDescriptor amd64 none ∷ descriptor amd64 dll false ∷ nullThunk amd64 (ascii "att") ∷ []))) 1 [] ≡ L.Refused 17 0)
     × (lookup (setBytes 2 0 (map encode (descriptor amd64 dll false ∷ nullDescriptor amd64 none ∷ nullThunk amd64 (ascii "att") ∷ weak amd64 (ascii "b") (ascii "a") ∷ weak amd64 (ascii "a") (ascii "b") ∷ []))) 1 (ascii "a") ≡ L.Nowhere)
-    -- the writer's answer and output
-    × (written (on amd64) (list []) 684 ≡ W.Total 684)
+    -- what asking answers; the writer's output
+    × (asked (on amd64) (list []) ≡ W.Total 684)
+    × (asked (compatOn amd64) (list []) ≡ W.Total 692)
+    × (asked (on amd64) (lists (named "f" 0 0 ∷ []) (renamed "a" "b" "_b" ∷ [])) ≡ W.Refused 11 1)
     × (part (outputAfter (on amd64) (list []) (replicate 686 9)) 682 4 ≡ 65 ∷ 0 ∷ 9 ∷ 9 ∷ [])
     × (firsts arm64ec (wants "f" "f" isDatum ∷ []) ≡ short arm64ec 0 1 4 (ascii "f") dll (ascii "f") ∷ [])
     × (checkExports (on amd64) (part (list (named "f" 0 0 ∷ [])) 0 36 ++ le32 1 ++ drop 40 (list (named "f" 0 0 ∷ []))) ≡ Refused 6 0)
@@ -293,6 +295,8 @@ pub table :
     × (encode (weak i386 (ascii "t") (ascii "ab")) ≡ (76 ∷ 1 ∷ 1 ∷ 0 ∷ 0 ∷ 0 ∷ 0 ∷ 0 ∷ 60 ∷ 0 ∷ 0 ∷ 0 ∷ 5 ∷ 0 ∷ 0 ∷ 0 ∷ 0 ∷ 0 ∷ 0 ∷ 0 ∷ 46 ∷ 100 ∷ 114 ∷ 101 ∷ 99 ∷ 116 ∷ 118 ∷ 101 ∷ 0 ∷ 0 ∷ 0 ∷ 0 ∷ 0 ∷ 0 ∷ 0 ∷ 0 ∷ 0 ∷ 0 ∷ 0 ∷ 0 ∷ 0 ∷ 0 ∷ 0 ∷ 0 ∷ 0 ∷ 0 ∷ 0 ∷ 0 ∷ 0 ∷ 0 ∷ 0 ∷ 0 ∷ 0 ∷ 0 ∷ 0 ∷ 0 ∷ 0 ∷ 10 ∷ 0 ∷ 0 ∷ 64 ∷ 99 ∷ 111 ∷ 109 ∷ 112 ∷ 46 ∷ 105 ∷ 100 ∷ 0 ∷ 0 ∷ 0 ∷ 0 ∷ 255 ∷ 255 ∷ 0 ∷ 0 ∷ 3 ∷ 0 ∷ 64 ∷ 102 ∷ 101 ∷ 97 ∷ 116 ∷ 46 ∷ 48 ∷ 48 ∷ 0 ∷ 0 ∷ 0 ∷ 0 ∷ 255 ∷ 255 ∷ 0 ∷ 0 ∷ 3 ∷ 0 ∷ 0 ∷ 0 ∷ 0 ∷ 0 ∷ 4 ∷ 0 ∷ 0 ∷ 0 ∷ 0 ∷ 0 ∷ 0 ∷ 0 ∷ 0 ∷ 0 ∷ 0 ∷ 0 ∷ 2 ∷ 0 ∷ 0 ∷ 0 ∷ 0 ∷ 0 ∷ 6 ∷ 0 ∷ 0 ∷ 0 ∷ 0 ∷ 0 ∷ 0 ∷ 0 ∷ 0 ∷ 0 ∷ 0 ∷ 0 ∷ 105 ∷ 1 ∷ 2 ∷ 0 ∷ 0 ∷ 0 ∷ 3 ∷ 0 ∷ 0 ∷ 0 ∷ 0 ∷ 0 ∷ 0 ∷ 0 ∷ 0 ∷ 0 ∷ 0 ∷ 0 ∷ 0 ∷ 0 ∷ 9 ∷ 0 ∷ 0 ∷ 0 ∷ 116 ∷ 0 ∷ 97 ∷ 98 ∷ 0 ∷ []))
 unfolding Bytes.opened Machines.opened Exports.opened Names.opened Plan.opened Layouts.opened Library.opened Refusals.opened Reader.opened Lookup.opened Demands.opened Answers.opened
 table = (
+  refl,
+  refl,
   refl,
   refl,
   refl,

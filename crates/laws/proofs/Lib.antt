@@ -13,3 +13,4 @@ pub mod Asks
 pub mod Definers
 pub mod Demand3
 pub mod Private
+pub mod Asking

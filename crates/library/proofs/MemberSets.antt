@@ -16,17 +16,23 @@ use Rattle.format.specs.Machines.{firstMachine, nativeMachine}
 use Rattle.format.specs.Exports.{firstCount, nativeCount, bothCounts, namesAt, dllField, offsetOf, lengthOf, bytesAt, dllName, exportsFrom, firstExports, nativeExports}
 use Rattle.format.specs.Layouts.{Member, encode}
 use Rattle.format.specs.Library.{Options, setHeaderSize, firstMemberAt, directory, membersOf, fixedMembers, firstMembers, nativeMembers, allMembers, setBytes, memberSet}
-use Rattle.format.specs.Refusals.{Row, row, earliest, acceptRows, roomRows, allRows, checkList, checkExports, checkAll}
-use Rattle.format.specs.Answers.{total, written, leaves, outputAfter}
+use Rattle.format.specs.Refusals.{Row, row, earliest, roomRows, checkList, checkExports}
+use Rattle.format.specs.Answers.{total, asked, unless, written, leaves, outputAfter}
+use Rattle.format.specs.declared.Checked.{Checked}
 use Rattle.format.specs.declared.Checked.the-variants.{Fine, Refused}
 use Rattle.format.specs.declared.Written.the-variants as W
-use Rattle.format.proofs.Rows.{earliest-given, earliest-passed, earliest-none, earliest-append, andThen-stops}
+use Rattle.format.proofs.Rows.{earliest-given, earliest-passed, earliest-none}
 use Rattle.format.proofs.Listed.{listed, dll-few, dll-inside}
 use Rattle.laws.proofs.Accepted.{accepted}
 use Rattle.laws.proofs.Refusals.{accepted-room}
 use Rattle.laws.proofs.Totals.{first-few, native-few, members-small, length-directory, length-setBytes}
+use Rattle.coff.specs.Machines.{IsMachine}
+use Rattle.coff.specs.declared.machines.Machine.{Machine}
 use Rattle.walks.specs.Pen.{Room, Drew, fixedOf}
-use Rattle.library.specs.Sets.{membersBy, DrewBy, DrewAll, farthest, Measured, headerBytes}
+use Rattle.library.specs.declared.Accepted.{Accepted}
+use Rattle.library.specs.declared.Accepted.the-variants.{By}
+use Rattle.library.specs.declared.Accepted.the-variants as A
+use Rattle.library.specs.Sets.{AcceptedAs, taken, refused, membersBy, DrewBy, DrewAll, farthest, Measured, headerBytes}
 use Rattle.walks.proofs.Pens.{room-as, room-first, room-next, drew-as, drew-more, drew-length}
 
 -- ---- the fixed members, the first list, the native list
@@ -203,33 +209,54 @@ module _ (o : Options) (b : Bytes) (small : Octets b) (e : checkExports o b ≡ 
       pub set-written : l₂ ≡ memberSet o b ++ drop (length (memberSet o b)) l
       set-written = laid ∙ over-exact 0 (memberSet o b) l (omega (arith, fits)) ∙ ap (λ (k : ℕ). memberSet o b ++ drop k l) (sym (zero-more (length (memberSet o b))))
 
--- ---- the writer's answer
+-- ---- a list that was accepted, or not
+
+module _ {o : Options} {b : Bytes} where
+  pub accepted-by : {r : Accepted} {m : Machine} → r ≡ By m → AcceptedAs o b r → (checkExports o b ≡ Fine) × (m .number ≡ o .machine) × IsMachine m
+  accepted-by e a = told (rw e at a)
+    where
+      told : {m : Machine} → AcceptedAs o b (By m) → (checkExports o b ≡ Fine) × (m .number ≡ o .machine) × IsMachine m
+      told (taken f n is) = (f, n, is)
+
+  pub refused-by : {r : Accepted} {number place : ℕ} → r ≡ A.Refused number place → AcceptedAs o b r → checkExports o b ≡ Refused number place
+  refused-by e a = told (rw e at a)
+    where
+      told : {number place : ℕ} → AcceptedAs o b (A.Refused number place) → checkExports o b ≡ Refused number place
+      told (refused f) = f
+
+-- ---- what asking and writing answer
+
+module _ (o : Options) (b : Bytes) where
+  pub asked-stop : (number place : ℕ) → checkExports o b ≡ Refused number place → W.Refused number place ≡ asked o b
+  unfolding asked total
+  asked-stop number place e = rw e
+
+  pub asked-total : {t : ℕ} → checkExports o b ≡ Fine → t ≡ length (memberSet o b) → W.Total t ≡ asked o b
+  unfolding asked total
+  asked-total e t = rw (e, t)
 
 module _ (o : Options) (b out : Bytes) where
-  abbrev room-row : Row
-  room-row = row 15 0 (ltb (length out) (length (memberSet o b)))
-
   pub written-stop : (number place : ℕ) → checkExports o b ≡ Refused number place → (W.Refused number place ≡ written o b (length out)) × (out ≡ outputAfter o b out)
-  unfolding written outputAfter checkAll allRows checkExports total leaves
-  written-stop number place e =
-      let stops : earliest (acceptRows o b ++ roomRows o b (length out)) ≡ Refused number place =
-      earliest-append (acceptRows o b) (roomRows o b (length out)) ∙ andThen-stops _ _ number place e in
-      (rw stops, rw stops)
+  unfolding written asked unless total outputAfter leaves
+  written-stop number place e = (rw e, rw e)
 
   module _ (e : checkExports o b ≡ Fine) where
-    last-row : checkAll o b (length out) ≡ earliest (room-row ∷ [])
+    abbrev room-row : Row
+    room-row = row 15 0 (ltb (length out) (length (memberSet o b)))
+
+    by-room : {c : Checked} → earliest (room-row ∷ []) ≡ c → written o b (length out) ≡ total c (length (memberSet o b))
     unfolding roomRows
-    last-row = accepted-room o b (length out) e
+    by-room f = accepted-room o b (length out) e ∙ ap (λ (c : Checked). total c (length (memberSet o b))) f
 
     pub written-15 : length out < length (memberSet o b) → (W.Refused 15 0 ≡ written o b (length out)) × (out ≡ outputAfter o b out)
-    unfolding written outputAfter total leaves
+    unfolding total outputAfter leaves
     written-15 h =
-        let stops : checkAll o b (length out) ≡ Refused 15 0 = last-row ∙ earliest-given room-row [] (lt-ltb (length out) (length (memberSet o b)) h) in
-        (rw stops, rw stops)
+        let stops : written o b (length out) ≡ W.Refused 15 0 = by-room (earliest-given room-row [] (lt-ltb (length out) (length (memberSet o b)) h)) in
+        (sym stops, rw stops)
 
     pub written-total : {t : ℕ} {l : Bytes} → length (memberSet o b) ≤ length out → t ≡ length (memberSet o b) → l ≡ memberSet o b ++ drop (length (memberSet o b)) out
         → (W.Total t ≡ written o b (length out)) × (l ≡ outputAfter o b out)
-    unfolding written outputAfter total leaves
+    unfolding total outputAfter leaves
     written-total h t l =
-        let fine : checkAll o b (length out) ≡ Fine = last-row ∙ earliest-passed room-row [] (le-ltb (length out) (length (memberSet o b)) h) ∙ earliest-none in
-        (rw (fine, t), rw (fine) l)
+        let fine : written o b (length out) ≡ W.Total (length (memberSet o b)) = by-room (earliest-passed room-row [] (le-ltb (length out) (length (memberSet o b)) h) ∙ earliest-none) in
+        (ap W.Total t ∙ sym fine, rw fine l)

@@ -1,4 +1,4 @@
--- All members of a library, by the machines of the two lists; and what drawing them tells.
+-- Lists that are accepted; all members of a library, by the machines of the two lists; and what drawing them tells.
 use Prim.Native.Nat.{ℕ, _+_, _*_}
 use mathlib.Core.Path.{_≡_}
 use mathlib.Core.Bool.{Bool}
@@ -8,7 +8,18 @@ use Rattle.wire.specs.Bytes.{Bytes, le32, join}
 use Rattle.format.specs.Exports.{firstExports, nativeExports}
 use Rattle.format.specs.Layouts.{Member, encode}
 use Rattle.format.specs.Library.{Options, setHeaderSize, entrySize, membersOf, firstMembers, nativeMembers, allMembers}
+use Rattle.format.specs.Refusals.{checkExports}
+use Rattle.format.specs.declared.Checked.the-variants as C
+use Rattle.coff.specs.Machines.{IsMachine}
+use Rattle.coff.specs.declared.machines.Machine.{Machine}
 use Rattle.walks.specs.Pen.{Drew, fixedOf}
+use Rattle.library.specs.declared.Accepted.{Accepted}
+use Rattle.library.specs.declared.Accepted.the-variants.{By, Refused}
+
+-- a list that is accepted, with its machine; or its refusal from 1 to 14
+pub data AcceptedAs (o : Options) (b : Bytes) : Accepted → Type 0 where
+  taken : {m : Machine} → checkExports o b ≡ C.Fine → m .number ≡ o .machine → IsMachine m → AcceptedAs o b (By m)
+  refused : {number place : ℕ} → checkExports o b ≡ C.Refused number place → AcceptedAs o b (Refused number place)
 
 -- the three fixed members, the first list and the native list
 abbrev pub membersBy : ℕ → ℕ → Bool → Bool → Bytes → Bytes → List Member

@@ -13,16 +13,16 @@ use walks::pen::pen_at;
 use walks::walk::draw_list;
 ghost use mathlib.Core.Path.{_≡_};
 ghost use mathlib.Core.List.{[]};
-ghost use Prim.Native.Nat.{_+_, _≤_, _<_};
+ghost use Prim.Native.Nat.{_+_, _-_, _≤_, _<_};
 ghost use lib.ListN.{length};
 ghost use Rattle.wire.specs.Writes.{Wrote};
-ghost use Rattle.format.specs.Library.{allMembers};
+ghost use Rattle.format.specs.Library.{allMembers, memberSet};
 ghost use Rattle.format.specs.Refusals.{checkList, checkExports};
 ghost use Rattle.format.specs.Answers.{written, outputAfter};
 ghost use Rattle.format.specs.declared.Checked.the-variants.{Fine};
 ghost use Rattle.coff.specs.Machines.{IsMachine};
 ghost use Rattle.walks.specs.Pen.{entryOf, atOf, Room};
-ghost use Rattle.library.specs.Sets.{membersBy, DrewBy, DrewAll, Measured, headerBytes};
+ghost use Rattle.library.specs.Sets.{membersBy, DrewBy, DrewAll, farthest, Measured, headerBytes};
 
 // How many exports both lists have at most, and how many members each of them.
 const MAX_EXPORTS: usize = 2 * (lists::MAX_COUNT as usize);
@@ -108,6 +108,25 @@ fn measure(none: &mut [u8], b: &[u8], machine: Machine, mingw: bool, compat: boo
     draw_all(none, pen, b, machine, mingw, compat)
 }
 
+// The total of a set, by the pen after all members were measured.
+fn total_of(pen: u64) -> usize
+    requires { ⌜ farthest ≤ atOf pen ⌝ }
+    ensures { λ r. ⌜ r ≡ entryOf pen + (atOf pen - farthest) ⌝ }
+{
+    entry_of(pen) + (at_of(pen) - FARTHEST)
+}
+
+// The total of the set of an accepted list.
+pub fn total_accepted(b: &[u8], machine: Machine, mingw: bool, compat: bool) -> usize
+    requires { ⌜ checkExports (record { machine = machine .number; mingw = mingw; compat = compat }) (now b) ≡ Fine ⌝ }
+    requires { ⌜ IsMachine machine ⌝ }
+    ensures { λ r. ⌜ r ≡ length (memberSet (record { machine = machine .number; mingw = mingw; compat = compat }) (now (b .entry))) ⌝ }
+{
+    let mut none = [0u8; 0];
+    let size = measure(&mut none, b, machine, mingw, compat);
+    total_of(size.pen)
+}
+
 // The header of a set.
 fn put_header(out: &mut [u8], firsts: usize, natives: usize, first_at: usize) -> usize
     requires { ⌜ (firsts ≤ 8192) × (natives ≤ 8192) × («first_at» < 4294967296) ⌝ }
@@ -134,7 +153,7 @@ pub fn write_accepted(
     let room = out.len();
     let size = measure(&mut out[..0], b, machine, mingw, compat);
     let first_at = entry_of(size.pen);
-    let total = first_at + (at_of(size.pen) - FARTHEST);
+    let total = total_of(size.pen);
     if room < total {
         return Written::Refused {
             number: 15,

@@ -1,6 +1,6 @@
 -- What a kept answer says, and what a comparison with it tells.
 use Prim.Native.Nat.{ℕ, _-_}
-use mathlib.Core.Path.{_≡_, refl, sym, ap, _∙_}
+use mathlib.Core.Path.{_≡_, sym, ap, _∙_}
 use mathlib.Core.Bool.{true, false}
 use mathlib.Core.List.{_++_}
 use lib.ListN.{length, take, drop, take-append-drop}
@@ -11,8 +11,8 @@ use Rattle.wire.specs.Bytes.{Bytes, same}
 use Rattle.wire.proofs.Bytes.{same-eq}
 use Rattle.search.proofs.Searches.{take-rest}
 use Rattle.format.specs.Library.{Options, memberSet}
-use Rattle.format.specs.Refusals.{checkAll}
-use Rattle.format.specs.Answers.{written, outputAfter, total, leaves}
+use Rattle.format.specs.Refusals.{earliest, roomRows, checkExports}
+use Rattle.format.specs.Answers.{total, asked, unless, written, leaves, outputAfter}
 use Rattle.format.specs.declared.Checked.{Checked}
 use Rattle.format.specs.declared.Checked.the-variants as C
 use Rattle.format.specs.declared.Checked.the-variants.{Fine}
@@ -61,22 +61,15 @@ module _ {o : Options} {list set before out after : Bytes} {k : Kept} {w v : Wri
 
 -- ---- what an agreement says of the definitions: the members are the Rust's
 
-set-of : (c : Checked) (members set out : Bytes) {n : ℕ} → total c (length members) ≡ Total n → n ≡ length set → leaves c members out ≡ set ++ drop (length set) out → members ≡ set
-unfolding total leaves
-set-of Fine members set out e h g =
+set-of : (own c : Checked) (members set out : Bytes) {n : ℕ} → unless own (total c (length members)) ≡ Total n → n ≡ length set
+    → leaves (unless own (total c (length members))) members out ≡ set ++ drop (length set) out → members ≡ set
+unfolding unless total leaves
+set-of Fine Fine members set out e h g =
     let n : length members ≡ length set = cc in
     sym (take-append-seam members (drop (length members) out)) ∙ ap (λ (x : Bytes). take (length members) x) g ∙ ap (λ (x : ℕ). take x (set ++ drop (length set) out)) n ∙ take-append-seam set (drop (length set) out)
-set-of (C.Refused number place) members set out e h g = cc
+set-of (C.Refused number place) Fine members set out e h g = cc
+set-of own (C.Refused number place) members set out e h g = cc
 
 pub agrees-set : (o : Options) (list : Bytes) (k : Kept) (set out : Bytes) → Agrees o list k set out → k .number ≡ 0 → memberSet o list ≡ set
-unfolding written outputAfter answer output
-agrees-set o list k set out a z = by (checkAll o list (length out)) refl
-  where
-    answered : written o list (length out) ≡ Total (k .value)
-    answered = a .answers ∙ rw z
-
-    left : outputAfter o list out ≡ set ++ drop (length set) out
-    left = a .leaves ∙ rw z
-
-    by : (c : Checked) → checkAll o list (length out) ≡ c → memberSet o list ≡ set
-    by c e = set-of c (memberSet o list) set out (ap (λ (x : Checked). total x (length (memberSet o list))) (sym e) ∙ answered) (a .total z) (ap (λ (x : Checked). leaves x (memberSet o list) out) (sym e) ∙ left)
+unfolding written asked outputAfter answer output
+agrees-set o list k set out a z = set-of (earliest (roomRows o list (length out))) (checkExports o list) (memberSet o list) set out (a .answers ∙ rw z) (a .total z) (a .leaves ∙ rw z)

@@ -1,4 +1,4 @@
-//! The command `crepedum`: member sets written, shown and looked up.
+//! The command `crepedum`: member sets measured, written, shown and looked up.
 
 mod args;
 mod fault;
@@ -9,6 +9,7 @@ mod look;
 mod show;
 mod table;
 mod text;
+mod total;
 mod view;
 mod write;
 
@@ -19,12 +20,13 @@ use args::Form;
 use fault::Fault;
 
 const HELP: &str = "\
-usage: crepedum write LIST --machine MACHINE [-o SET] [--members DIR]
+usage: crepedum total LIST --machine MACHINE
+       crepedum write LIST --machine MACHINE [-o SET] [--members DIR]
        crepedum show SET|MEMBER [--json]
        crepedum lookup SET SYMBOL [--list 1|2]
        crepedum COMMAND --help
 
-Writes the members of Windows import libraries, shows them, and says where symbols lead.
+Writes the members of Windows import libraries, tells their total first, shows them, and says where symbols lead.
 A file named - is standard input or standard output.
 
 exit status: 0; the refusal's number, 1 to 17; 64 for a wrong use; 74 for a file that can't be read or written
@@ -32,7 +34,8 @@ exit status: 0; the refusal's number, 1 to 17; 64 for a wrong use; 74 for a file
 
 type Run = fn(&args::Words) -> Result<(), Fault>;
 
-const COMMANDS: [(&Form, Run); 3] = [
+const COMMANDS: [(&Form, Run); 4] = [
+    (&total::FORM, total::run),
     (&write::FORM, write::run),
     (&show::FORM, show::run),
     (&look::FORM, look::run),

@@ -54,7 +54,7 @@ pub fn run(words: &Words) -> Result<(), Fault> {
     staged_file.map_or(Ok(()), Staged::keep)
 }
 
-fn options(words: &Words) -> Result<Options, Fault> {
+pub fn options(words: &Words) -> Result<Options, Fault> {
     let Some(machine) = words.option("--machine") else {
         return Err(words.wrong("--machine is to be given"));
     };

@@ -1,5 +1,5 @@
 -- `library::set::write_accepted` meets its contract.
-use Prim.Native.Nat.{ℕ, _+_, _-_, _≤_, _<_}
+use Prim.Native.Nat.{ℕ, _≤_, _<_}
 use mathlib.Core.Path.{_≡_, _∙_}
 use native.Mathlib.Omega.{arith}
 use Rattle.wire.proofs.Parts.{octets}
@@ -18,9 +18,6 @@ less h e = omega arith
 enough : {n t u : ℕ} → t ≤ n → t ≡ u → u ≤ n
 enough h e = omega arith
 
-measured-by : {e a e₀ a₀ t : ℕ} → e ≡ e₀ → a ≡ a₀ → e₀ + (a₀ - 131112) ≡ t → e + (a - 131112) ≡ t
-measured-by p q h = rw (p, q) h
-
 headed : (firsts natives : ℕ) {l l′ : Bytes} {at at₀ r : ℕ} → at ≡ at₀ → Wrote l 0 (headerBytes firsts natives at) l′ r → Wrote l 0 (headerBytes firsts natives at₀) l′ r
 headed firsts natives e w = rw e at w
 
@@ -30,7 +27,7 @@ returns c =
     let c₈ = c₅ .before .before .before in
     let c₉ = c₈ .before in
     let (answer, left) = written-15 _ _ _ (c₉ .pre .0)
-    (less (c .if1 .taken) (measured-by (c .before .before .entry-of .ensures) (c .before .at-of .ensures) (measured-total _ _ (octets _ (c₈ .shared-slice-known .given)) (c₉ .pre .0) (c₅ .measure .ensures .1))))
+    (less (c .if1 .taken) (c .before .total-of .ensures ∙ measured-total _ _ (octets _ (c₈ .shared-slice-known .given)) (c₉ .pre .0) (c₅ .measure .ensures .1)))
     in (answer, after-nothing _ _ (c₅ .measure .ensures .0) ∙ left)
 
 draw-all-requires : tie.Need-draw-all-requires
@@ -60,15 +57,13 @@ returns-2 c =
     let c₁₄ = c₁₁ .before .before .before in
     let c₁₇ = c₁₄ .before .before .before in
     let c₁₈ = c₁₇ .before in
-    let fits = enough (c₉ .if1 .left)
-    (measured-by (c₁₁ .entry-of .ensures) (c₁₀ .at-of .ensures) (measured-total _ _ (octets _ (c₁₇ .shared-slice-known .given)) (c₁₈ .pre .0) (c₁₄ .measure .ensures .1)))
-    in written-total _ _ _ (c₁₈ .pre .0) fits
-    (measured-by (c₁₁ .entry-of .ensures) (c₁₀ .at-of .ensures) (measured-total _ _ (octets _ (c₁₇ .shared-slice-known .given)) (c₁₈ .pre .0) (c₁₄ .measure .ensures .1)))
+    let total = c₁₀ .total-of .ensures ∙ measured-total _ _ (octets _ (c₁₇ .shared-slice-known .given)) (c₁₈ .pre .0) (c₁₄ .measure .ensures .1) in
+    let fits = enough (c₉ .if1 .left) total in
+    written-total _ _ _ (c₁₈ .pre .0) fits total
     (set-written _ _ (octets _ (c₁₇ .shared-slice-known .given)) (c₁₈ .pre .0) (c₁₄ .measure .ensures .1) fits (drew-after-nothing _ _ (c₁₄ .measure .ensures .0) (all-at (c₈ .pen-at .ensures .0) (c₈ .pen-at .ensures .1 ∙ c₁₁ .entry-of .ensures) (c₆ .draw-all .ensures))) (headed _ _ (c₁₁ .entry-of .ensures) (c .before .before .put-header .ensures)))
 
 pub write-accepted-spec : {M : Type 1} → statement M
 write-accepted-spec =
     tie.close
     (tie.spec (λ c. search needs) (λ c. search needs) (λ c κs. search needs) (λ c κs. search needs) (λ c κs. search needs)
-    (λ c. search needs) (λ c. search needs) (λ c. search needs) returns (λ c κs. search needs) draw-all-requires
-    put-header-requires (λ c. search needs) returns-2)
+    (λ c. search needs) returns (λ c κs. search needs) draw-all-requires put-header-requires (λ c. search needs) returns-2)
