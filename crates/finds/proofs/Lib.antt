@@ -1,4 +1,4 @@
 -- Laws of what is looked for.
-pub mod Runs
-pub mod Sizes
+pub mod Drawn
+pub mod Bounds
 pub mod Texts

@@ -28,7 +28,7 @@ ghost use Rattle.members.specs.Members.{IsStem, weakOf};
 
 // What each member has beside its names: the records, the head of the string table, the NULs, and what its names begin or end
 // with. The name of a null import descriptor is counted by its own function.
-const DESCRIPTOR: usize = DLL_AT
+pub const DESCRIPTOR: usize = DLL_AT
     + DESCRIPTOR_SYMBOLS_SIZE
     + STRINGS_AT
     + IMPORT_DESCRIPTOR_PREFIX.len()

@@ -1,17 +1,17 @@
 // The reader: any bytes, read exactly where they are one of the five members.
 //
 // The fields are taken from where the one layout that fits the header has them. Whether the member that they make is admitted
-// is tested, and its bytes are looked for part after part: they must end where the bytes end. Nothing is copied; a name is
-// answered by its place.
+// is tested, and its bytes, as the writer writes them, are looked for: they must end where the bytes end. A name is answered by
+// its place.
 pub mod texts; // texts.rt: names in bytes, and what is admitted
 pub mod answers; // answers.rt: what is answered for a member
 
 use crate::answers::REFUSED;
 use coff::machines::Found;
 use coff::machines::Machine;
-use finds::tables::NULL_STRINGS_AT;
-use finds::tables::SYMBOL_AT;
-use finds::tables::WEAK_STRINGS_AT;
+use finds::strings::NULL_STRINGS_AT;
+use finds::strings::SYMBOL_AT;
+use finds::strings::WEAK_STRINGS_AT;
 use format::Read;
 use layout::places::DESCRIPTOR_SYMBOLS;
 use layout::places::DLL_AT;

@@ -1,4 +1,4 @@
--- The reader of each record undoes its writer: where a record's bytes stand, the record at that place is that record.
+-- The reader of a record undoes its writer: where a record's bytes stand, the record at that place is that record.
 use Prim.Native.Nat.{ℕ, _+_, _<_, _≤_}
 use mathlib.Core.Path.{_≡_, sym, ap, _∙_}
 use mathlib.Core.List.{_++_}
@@ -9,13 +9,11 @@ use mir.Val.{SFits}
 use Rattle.wire.specs.Bytes.{Bytes, join, part, u16At, u32At}
 use Rattle.wire.specs.Writes.{Wrote, Has}
 use Rattle.wire.proofs.Writes.{tab, array}
-use Rattle.format.specs.Layouts.{fileHeaderSize, sectionSize, relocationSize, symbolSize, importHeaderSize, fileHeader, section, reloc, symbol, importHeader, word}
+use Rattle.format.specs.Layouts.{fileHeaderSize, symbolSize, importHeaderSize, fileHeader, symbol, importHeader, word}
 use Rattle.records.specs.declared.FileHeader.{FileHeader}
-use Rattle.records.specs.declared.Section.{Section}
-use Rattle.records.specs.declared.Relocation.{Relocation}
 use Rattle.records.specs.declared.Symbol.{Symbol}
 use Rattle.records.specs.declared.ImportObjectHeader.{ImportObjectHeader}
-use Rattle.records.specs.Records.{fileHeaderBytes, fileHeaderAt, sectionBytes, sectionAt, relocationBytes, relocationAt, symbolBytes, symbolAt, importHeaderBytes, importHeaderAt}
+use Rattle.records.specs.Records.{fileHeaderBytes, fileHeaderAt, symbolBytes, symbolAt, importHeaderBytes, importHeaderAt}
 use Rattle.records.proofs.Words.{word-small, signed-word}
 use Rattle.records.proofs.Fields.{drop-further, byte-there, part-there, u16-there, u32-there, wrote-has}
 
@@ -27,19 +25,6 @@ pub record FileHeaderFits (h : FileHeader) : Type 0 where
   pub symbolTable : h .«pointer_to_symbol_table» < 4294967296
   pub symbols : h .«number_of_symbols» < 4294967296
   pub characteristics : h .characteristics < 65536
-
-pub record SectionFits (h : Section) : Type 0 where
-  pub name : length (h .name) ≡ 8
-  pub size : h .«size_of_raw_data» < 4294967296
-  pub «data» : h .«pointer_to_raw_data» < 4294967296
-  pub relocationTable : h .«pointer_to_relocations» < 4294967296
-  pub relocations : h .«number_of_relocations» < 65536
-  pub characteristics : h .characteristics < 4294967296
-
-pub record RelocationFits (h : Relocation) : Type 0 where
-  pub address : h .«virtual_address» < 4294967296
-  pub index : h .«symbol_table_index» < 4294967296
-  pub type : h .typ < 65536
 
 pub record SymbolFits (h : Symbol) : Type 0 where
   pub name : length (h .name) ≡ 8
@@ -64,33 +49,6 @@ module _ {b : Bytes} {at : ℕ} where
       let k : u32At b (at + 12) ≡ h .«number_of_symbols» = u32-there b (at + 12) _ (f .symbols) (drop-further b at 12 e) in
       let c : u16At b (at + 18) ≡ h .characteristics = u16-there b (at + 18) _ (f .characteristics) (drop-further b at 18 e) in
       rw (m, n, t, k, c)
-
-  pub section-back : {h : Section} → SectionFits h → Has b at (sectionBytes h) → sectionAt b at ≡ h
-  unfolding section join
-  section-back {h} f p =
-      let a = array 8 (h .name) (f .name) in
-      let z = h .«size_of_raw_data» in
-      let d = h .«pointer_to_raw_data» in
-      let t = h .«pointer_to_relocations» in
-      let k = h .«number_of_relocations» in
-      let c = h .characteristics in
-      let e : drop at b ≡ section (tab 8 0 (h .name)) z d t k c ++ p .rest = p .there ∙ ap (λ (n : Bytes). section n z d t k c ++ p .rest) a in
-      let n : part b at 8 ≡ h .name = part-there b at 8 e ∙ sym a in
-      let z : u32At b (at + 16) ≡ z = u32-there b (at + 16) _ (f .size) (drop-further b at 16 e) in
-      let d : u32At b (at + 20) ≡ d = u32-there b (at + 20) _ (f .«data») (drop-further b at 20 e) in
-      let t : u32At b (at + 24) ≡ t = u32-there b (at + 24) _ (f .relocationTable) (drop-further b at 24 e) in
-      let k : u16At b (at + 32) ≡ k = u16-there b (at + 32) _ (f .relocations) (drop-further b at 32 e) in
-      let c : u32At b (at + 36) ≡ c = u32-there b (at + 36) _ (f .characteristics) (drop-further b at 36 e) in
-      rw (n, z, d, t, k, c)
-
-  pub relocation-back : {h : Relocation} → RelocationFits h → Has b at (relocationBytes h) → relocationAt b at ≡ h
-  unfolding reloc join
-  relocation-back {h} f p =
-      let e = p .there in
-      let a : u32At b at ≡ h .«virtual_address» = u32-there b at _ (f .address) e in
-      let n : u32At b (at + 4) ≡ h .«symbol_table_index» = u32-there b (at + 4) _ (f .index) (drop-further b at 4 e) in
-      let t : u16At b (at + 8) ≡ h .typ = u16-there b (at + 8) _ (f .type) (drop-further b at 8 e) in
-      rw (a, n, t)
 
   pub symbol-back : {h : Symbol} → SymbolFits h → Has b at (symbolBytes h) → symbolAt b at ≡ h
   unfolding symbol join
@@ -118,10 +76,6 @@ module _ {b : Bytes} {at : ℕ} where
 
 -- ---- what was written, where there is room for it, is read back
 
-length-section : (h : Section) → length (h .name) ≡ 8 → length (sectionBytes h) ≡ sectionSize
-unfolding section join
-length-section h e = simp length-append (omega arith)
-
 length-symbol : (h : Symbol) → length (h .name) ≡ 8 → length (symbolBytes h) ≡ symbolSize
 unfolding symbol join
 length-symbol h e = simp length-append (omega arith)
@@ -130,13 +84,6 @@ module _ {l l′ : Bytes} {at r : ℕ} where
   pub fileHeader-written : {h : FileHeader} → FileHeaderFits h → Wrote l at (fileHeaderBytes h) l′ r → at + fileHeaderSize ≤ length l → fileHeaderAt l′ at ≡ h
   unfolding fileHeader join
   fileHeader-written f w room = fileHeader-back f (wrote-has w room)
-
-  pub section-written : {h : Section} → SectionFits h → Wrote l at (sectionBytes h) l′ r → at + sectionSize ≤ length l → sectionAt l′ at ≡ h
-  section-written {h} f w room = section-back f (wrote-has w (omega (arith, length-section h (f .name))))
-
-  pub relocation-written : {h : Relocation} → RelocationFits h → Wrote l at (relocationBytes h) l′ r → at + relocationSize ≤ length l → relocationAt l′ at ≡ h
-  unfolding reloc join
-  relocation-written f w room = relocation-back f (wrote-has w room)
 
   pub symbol-written : {h : Symbol} → SymbolFits h → Wrote l at (symbolBytes h) l′ r → at + symbolSize ≤ length l → symbolAt l′ at ≡ h
   symbol-written {h} f w room = symbol-back f (wrote-has w (omega (arith, length-symbol h (f .name))))

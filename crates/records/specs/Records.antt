@@ -42,25 +42,6 @@ fileHeaderAt b at =
       characteristics = u16At b (at + 18);
     }
 
-abbrev pub sectionAt : Bytes → ℕ → Section
-sectionAt b at =
-    record {
-      name = part b at 8;
-      «size_of_raw_data» = u32At b (at + 16);
-      «pointer_to_raw_data» = u32At b (at + 20);
-      «pointer_to_relocations» = u32At b (at + 24);
-      «number_of_relocations» = u16At b (at + 32);
-      characteristics = u32At b (at + 36);
-    }
-
-abbrev pub relocationAt : Bytes → ℕ → Relocation
-relocationAt b at =
-    record {
-      «virtual_address» = u32At b at;
-      «symbol_table_index» = u32At b (at + 4);
-      typ = u16At b (at + 8);
-    }
-
 -- the signed number of sixteen bits: below 32768 itself, else 65536 less (negsuc k is -(k + 1))
 unfoldable pub signed : ℕ → ℤ
 signed w = if ltb w 32768 then pos w else negsuc (65535 - w)

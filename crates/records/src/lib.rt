@@ -1,12 +1,12 @@
 // The records of a COFF object file and the header of a short import, with the PE Format document's names. Fields that
-// are always 0 in a member are not held: `write` and `find` put 0 there, and `read` passes over them.
+// are always 0 in a member are not held: `write` puts 0 there, and `read` passes over them.
 ghost use Prim.Native.Nat.{_+_, _≤_};
 ghost use mathlib.Core.Path.{_≡_};
 ghost use lib.ListN.{length};
 ghost use Rattle.wire.specs.Bytes.{part};
 ghost use Rattle.wire.specs.Writes.{Wrote, Found};
-ghost use Rattle.format.specs.Layouts.{fileHeaderSize, sectionSize, relocationSize, symbolSize, importHeaderSize, importDescriptor, longName, auxiliary, word};
-ghost use Rattle.records.specs.Records.{fileHeaderBytes, fileHeaderAt, sectionBytes, sectionAt, relocationBytes, relocationAt, symbolBytes, symbolAt, importHeaderBytes, importHeaderAt, signed};
+ghost use Rattle.format.specs.Layouts.{fileHeaderSize, symbolSize, importHeaderSize, importDescriptor, longName, auxiliary, word};
+ghost use Rattle.records.specs.Records.{fileHeaderBytes, fileHeaderAt, sectionBytes, relocationBytes, symbolBytes, symbolAt, importHeaderBytes, importHeaderAt, signed};
 
 // The header of an object file.
 pub struct FileHeader {
@@ -71,14 +71,6 @@ impl FileHeader {
         wire::put(out, at, &b)
     }
 
-    // Looks for the header at a place. Returns the place after it, or a place past the end.
-    pub fn find(self, s: &[u8], at: usize) -> usize
-        ensures { λ r. ⌜ Found (now (s .entry)) at (fileHeaderBytes self) r ⌝ }
-    {
-        let b = self.bytes();
-        wire::find(s, at, &b)
-    }
-
     // The fields of the header at a place.
     pub fn read(b: &[u8], at: usize) -> Self
         requires { ⌜ at + fileHeaderSize ≤ length (now b) ⌝ }
@@ -106,17 +98,6 @@ pub struct Section {
 
 impl Section {
     pub const SIZE: usize = 40;
-
-    // Where the fields stand, after the first.
-    const SIZE_OF_RAW_DATA: usize = 16;
-
-    const POINTER_TO_RAW_DATA: usize = 20;
-
-    const POINTER_TO_RELOCATIONS: usize = 24;
-
-    const NUMBER_OF_RELOCATIONS: usize = 32;
-
-    const CHARACTERISTICS: usize = 36;
 
     fn bytes(self) -> [u8; Section::SIZE]
         ensures { λ r. ⌜ r ≡ sectionBytes self ⌝ }
@@ -182,29 +163,6 @@ impl Section {
         let b = self.bytes();
         wire::put(out, at, &b)
     }
-
-    // Looks for the section header at a place. Returns the place after it, or a place past the end.
-    pub fn find(self, s: &[u8], at: usize) -> usize
-        ensures { λ r. ⌜ Found (now (s .entry)) at (sectionBytes self) r ⌝ }
-    {
-        let b = self.bytes();
-        wire::find(s, at, &b)
-    }
-
-    // The fields of the section header at a place.
-    pub fn read(b: &[u8], at: usize) -> Self
-        requires { ⌜ at + sectionSize ≤ length (now b) ⌝ }
-        ensures { λ r. ⌜ r ≡ sectionAt (now (b .entry)) at ⌝ }
-    {
-        Section {
-            name: name_at(b, at),
-            size_of_raw_data: wire::u32_at(b, at + Section::SIZE_OF_RAW_DATA),
-            pointer_to_raw_data: wire::u32_at(b, at + Section::POINTER_TO_RAW_DATA),
-            pointer_to_relocations: wire::u32_at(b, at + Section::POINTER_TO_RELOCATIONS),
-            number_of_relocations: wire::u16_at(b, at + Section::NUMBER_OF_RELOCATIONS),
-            characteristics: wire::u32_at(b, at + Section::CHARACTERISTICS),
-        }
-    }
 }
 
 // A relocation of a section.
@@ -216,11 +174,6 @@ pub struct Relocation {
 
 impl Relocation {
     pub const SIZE: usize = 10;
-
-    // Where the fields stand, after the first.
-    const SYMBOL_TABLE_INDEX: usize = 4;
-
-    const TYPE: usize = 8;
 
     fn bytes(self) -> [u8; Relocation::SIZE]
         ensures { λ r. ⌜ r ≡ relocationBytes self ⌝ }
@@ -248,26 +201,6 @@ impl Relocation {
     {
         let b = self.bytes();
         wire::put(out, at, &b)
-    }
-
-    // Looks for the relocation at a place. Returns the place after it, or a place past the end.
-    pub fn find(self, s: &[u8], at: usize) -> usize
-        ensures { λ r. ⌜ Found (now (s .entry)) at (relocationBytes self) r ⌝ }
-    {
-        let b = self.bytes();
-        wire::find(s, at, &b)
-    }
-
-    // The fields of the relocation at a place.
-    pub fn read(b: &[u8], at: usize) -> Self
-        requires { ⌜ at + relocationSize ≤ length (now b) ⌝ }
-        ensures { λ r. ⌜ r ≡ relocationAt (now (b .entry)) at ⌝ }
-    {
-        Relocation {
-            virtual_address: wire::u32_at(b, at),
-            symbol_table_index: wire::u32_at(b, at + Relocation::SYMBOL_TABLE_INDEX),
-            typ: wire::u16_at(b, at + Relocation::TYPE),
-        }
     }
 }
 
@@ -329,14 +262,6 @@ impl Symbol {
         wire::put(out, at, &b)
     }
 
-    // Looks for the symbol at a place. Returns the place after it, or a place past the end.
-    pub fn find(self, s: &[u8], at: usize) -> usize
-        ensures { λ r. ⌜ Found (now (s .entry)) at (symbolBytes self) r ⌝ }
-    {
-        let b = self.bytes();
-        wire::find(s, at, &b)
-    }
-
     // The fields of the symbol at a place.
     pub fn read(b: &[u8], at: usize) -> Self
         requires { ⌜ at + symbolSize ≤ length (now b) ⌝ }
@@ -369,13 +294,6 @@ impl ImportDescriptor {
         ensures { λ r. ⌜ Wrote (now (out .entry)) at importDescriptor (now (out .exit)) r ⌝ }
     {
         wire::put_zeros(out, at, ImportDescriptor::SIZE)
-    }
-
-    // Looks for the descriptor at a place. Returns the place after it, or a place past the end.
-    pub fn find(self, s: &[u8], at: usize) -> usize
-        ensures { λ r. ⌜ Found (now (s .entry)) at importDescriptor r ⌝ }
-    {
-        wire::find_zeros(s, at, ImportDescriptor::SIZE)
     }
 }
 
@@ -448,7 +366,7 @@ impl ImportObjectHeader {
         ensures { λ r. ⌜ Found (now (s .entry)) at (importHeaderBytes self) r ⌝ }
     {
         let b = self.bytes();
-        wire::find(s, at, &b)
+        wire::find_words(s, at, &b)
     }
 
     // The fields of the header at a place.

@@ -1,10 +1,11 @@
 -- `finds::layouts::find_short` meets its contract.
 use Prim.Native.Nat.{ℕ}
-use mathlib.Core.Path.{ap}
+use mathlib.Core.Path.{sym, ap}
+use mathlib.Core.List.{[], _∷_}
 use Rattle.wire.proofs.Writes.{_⨟_, found-as}
 use Rattle.format.specs.Layouts.{importHeader}
+use Rattle.layout.proofs.Runs.{strings-append}
 use Rattle.members.proofs.Sizes.{size-short}
-use Rattle.finds.proofs.Runs.{_⊞_}
 use borrow.Author.Needs.{needs}
 use Rattle.finds.proofs.layouts.find_short.Statement.{statement}
 use Rattle.finds.proofs.layouts.find_short.Tie as tie
@@ -13,11 +14,11 @@ returns : tie.Need-returns
 returns c =
     let c₂ = c .before in
     let c₁ = c₂ .before in
-    let s = c₁ .before .before .before .before in
-    let a = s .args in
-    let h = found-as (ap (λ (n : ℕ). importHeader (a .machine) n (a .ordinal) (a .types)) (size-short (a .symbol .now) (a .dll .now)))
-    (c₁ .find .ensures) in
-    h ⨟ (c₂ .find-text .ensures ⊞ c .find-text2 .ensures) .found
+    let a = c₁ .before .before .before .before .args in
+    let s = a .symbol .now in
+    let d = a .dll .now in
+    let h = found-as (ap (λ (n : ℕ). importHeader (a .machine) n (a .ordinal) (a .types)) (size-short s d)) (c₁ .find .ensures) in
+    h ⨟ found-as (sym (strings-append (s ∷ []) (d ∷ []))) (c₂ .find-text .ensures ⨟ c .find-text2 .ensures)
 
 pub find-short-spec : {M : Type 1} → statement M
 find-short-spec =

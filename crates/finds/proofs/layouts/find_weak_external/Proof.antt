@@ -1,29 +1,31 @@
 -- `finds::layouts::find_weak_external` meets its contract.
-use mathlib.Core.Path.{ap}
-use Rattle.format.specs.Layouts.{stringsAt, weakBytes, encode}
-use Rattle.layout.specs.Runs.{weakSymbols}
-use Rattle.finds.proofs.Runs.{one, _⊕_, parts-as, table}
-use Rattle.finds.proofs.Sizes.{alias-at, size-weak}
+use mathlib.Core.Path.{_∙_}
+use mathlib.Core.List.{[], _∷_}
+use native.Mathlib.Omega.{arith}
+use Rattle.format.specs.Reader.{weakStringsAt}
+use Rattle.laws.proofs.Lengths.{length-encode-weak}
+use Rattle.laws.proofs.Places.{drop-encode-weak}
+use Rattle.layout.proofs.Runs.{strings-append}
+use Rattle.wire.proofs.Writes.{_⨟_}
+use Rattle.finds.proofs.Drawn.{drawn-head, after-head}
 use borrow.Author.Needs.{needs}
 use Rattle.finds.proofs.layouts.find_weak_external.Statement.{statement}
 use Rattle.finds.proofs.layouts.find_weak_external.Tie as tie
 
 returns : tie.Need-returns
-unfolding encode weakBytes
 returns c =
     let c₃ = c .before in
     let c₂ = c₃ .before in
     let c₁ = c₂ .before .before .before in
-    let s = c₁ .before .before .before .before in
-    let t = s .args .target .now in
-    (one (c₁ .find .ensures)
-    ⊕ one (c₂ .find2 .ensures)
-    ⊕ parts-as (ap (weakSymbols stringsAt) (alias-at t)) (c₃ .find-weak-symbols .ensures)
-    ⊕ table (size-weak t (s .args .alias .now)) (c .find-weak-table .ensures)) .found
+    let a = c₁ .before .before .before .before .before .args in
+    let t = a .target .now in
+    let w = a .alias .now in
+    let head = drawn-head (c₁ .create-weak-external .ensures) (omega (arith, length-encode-weak (a .machine) t w)) in
+    after-head weakStringsAt head (drop-encode-weak (a .machine) t w ∙ strings-append (t ∷ []) (w ∷ [])) (c₂ .find .ensures)
+    (c₃ .find-text .ensures ⨟ c .find-text2 .ensures)
 
 pub find-weak-external-spec : {M : Type 1} → statement M
 find-weak-external-spec =
     tie.close
-    (tie.spec (λ c. search needs) (λ c. search needs) (λ c. search needs) (λ c. search needs) (λ c. search needs)
-    (λ c. search needs) (λ c. search needs) (λ c κs. search needs) (λ c κs. search needs) (λ c κs. search needs)
-    (λ c κs. search needs) returns)
+    (tie.spec (λ c. search needs) (λ c κs. search needs) (λ c. search needs) (λ c κs. search needs) (λ c κs. search needs)
+    (λ c. search needs) (λ c. search needs) (λ c κs. search needs) returns)

@@ -1,2 +1,0 @@
--- What is looked for.
-pub mod Finds
