@@ -8,7 +8,7 @@ use native.Mathlib.Omega.{arith}
 use lib.ListN.{length}
 use lib.Dec.{eqb, leb}
 use borrow.Author.Tests.{eq-eqb, ne-eqb, lt-ltb}
-use Rattle.wire.specs.Bytes.{Bytes, same}
+use Rattle.wire.specs.Bytes.{Bytes, if_then_else_, same}
 use Rattle.wire.specs.Writes.{Found}
 use Rattle.wire.proofs.Bytes.{and-first, and-each, same-refl, same-differ}
 use Rattle.wire.proofs.Writes.{found-as, found-whole, whole-found}
@@ -34,6 +34,15 @@ barred b m e = rw e
 pub lost : {r : ℕ} (b : Bytes) (m : Member) → admits m ≡ true → Found b 0 (encode m) r → (r ≡ length b → ⊥) → Refused 16 0 ≡ answer b m
 unfolding answer right fieldsOrRefused
 lost b m a f n = rw (a, same-differ (encode m) b (λ e. n (whole-found f (sym e))))
+
+-- its bytes are others
+pub unlike : (b : Bytes) (m : Member) → (encode m ≡ b → ⊥) → Refused 16 0 ≡ answer b m
+unfolding answer right fieldsOrRefused
+unlike b m n = rw (same-differ (encode m) b n) (pick (admits m))
+  where
+    pick : (t : Bool) → Refused 16 0 ≡ fieldsOrRefused (if t && false then some m else none)
+    pick true = refl
+    pick false = refl
 
 -- they are
 pub found : {r : ℕ} {x : Read} (b : Bytes) (m : Member) → admits m ≡ true → Found b 0 (encode m) r → r ≡ length b → x ≡ fields m → x ≡ answer b m

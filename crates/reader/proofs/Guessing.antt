@@ -8,16 +8,16 @@ use native.Mathlib.Omega.{arith}
 use lib.ListN.{length, drop, drop-of-length-le}
 use lib.Dec.{eqb, leb, ltb}
 use borrow.Author.Tests.{eq-eqb, ne-eqb}
-use Rattle.wire.specs.Bytes.{Bytes, ascii, if_then_else_, u16At, u32At, same, part}
+use Rattle.wire.specs.Bytes.{Bytes, ascii, if_then_else_, u16At, u32At, same, part, join}
 use Rattle.wire.proofs.Bytes.{same-longer}
 use Rattle.wire.proofs.Parts.{part-last}
 use Rattle.format.specs.Machines.{known, arm64x}
-use Rattle.format.specs.Layouts.{Member, descriptor, nullDescriptor, nullThunk, short, weak, dllAt, importHeaderSize, nullName, thunkName, encode}
+use Rattle.format.specs.Layouts.{Member, descriptor, nullDescriptor, nullThunk, short, weak, dllAt, importHeaderSize, nullName, thunkName, encode, dataAt, IMAGE-SYM-ABSOLUTE, weakBytes, fileHeader, section, symbol, word}
 use Rattle.format.specs.Reader.{between, admitsDll, admitsExport, ordinary, admits, textAt, nullStringsAt, thunkStringsAt, weakStringsAt, descriptorGuess, nullGuess, thunkGuess, shortGuess, weakGuess, guess, right, read, fieldsOrRefused, readFields}
 use Rattle.format.specs.declared.Read.{Read}
 use Rattle.format.specs.declared.Read.the-variants.{Refused}
 use Rattle.laws.proofs.Lengths.{length-encode-descriptor, length-encode-nullDescriptor-none, length-encode-nullDescriptor-some, length-encode-nullThunk, length-encode-short, length-encode-weak}
-use Rattle.records.specs.Records.{importHeaderAt}
+use Rattle.records.specs.Records.{importHeaderAt, symbolAt, signed}
 use Rattle.records.specs.declared.ImportObjectHeader.{ImportObjectHeader}
 use Rattle.reader.specs.Answers.{answer, objectGuess, admitsTypes}
 use Rattle.reader.proofs.Admitting.{between-less}
@@ -94,6 +94,15 @@ pub weak-guessed : {m : ℕ} {t a : Bytes} (b : Bytes) → m ≡ u16At b 0 → t
 unfolding weakGuess
 weak-guessed {m} {t} b em et ea =
     ap (weak m t) ea ∙ ap₂ (λ (m : ℕ) (t : Bytes). weak m t (textAt b (weakStringsAt + (length t + 1)))) em et
+
+-- it is longer than what stands before its names, and its first symbol is absolute
+pub weak-long : (b : Bytes) → length b < weakStringsAt → encode (weakGuess b) ≡ b → ⊥
+unfolding weakGuess
+weak-long b h e = absurd (omega (arith, ap length e, length-encode-weak (u16At b 0) (textAt b weakStringsAt) (textAt b (weakStringsAt + (length (textAt b weakStringsAt) + 1)))))
+
+pub weak-absolute : (b : Bytes) → encode (weakGuess b) ≡ b → symbolAt b (dataAt 1) .«section_number» ≡ IMAGE-SYM-ABSOLUTE
+unfolding weakGuess encode weakBytes join fileHeader section symbol word signed u16At
+weak-absolute b e = ap (λ (d : Bytes). symbolAt d (dataAt 1) .«section_number») (sym e)
 
 -- ---- the short import
 

@@ -7,12 +7,14 @@ pub mod texts; // texts.rt: names in bytes, and what is admitted
 pub mod answers; // answers.rt: what is answered for a member
 
 use crate::answers::REFUSED;
+use coff::constants::IMAGE_SYM_ABSOLUTE;
 use coff::machines::Found;
 use coff::machines::Machine;
 use finds::strings::NULL_STRINGS_AT;
 use finds::strings::SYMBOL_AT;
 use finds::strings::WEAK_STRINGS_AT;
 use format::Read;
+use layout::places::DATA_AT_1;
 use layout::places::DESCRIPTOR_SYMBOLS;
 use layout::places::DLL_AT;
 use layout::places::WEAK_SYMBOLS;
@@ -24,6 +26,7 @@ use layout::tables::NULL_THUNK_DATA_PREFIX;
 use members::extents;
 use records::FileHeader;
 use records::ImportObjectHeader;
+use records::Symbol;
 ghost use Prim.Native.Nat.{_≤_};
 ghost use mathlib.Core.Path.{_≡_};
 ghost use lib.ListN.{length};
@@ -81,12 +84,18 @@ fn read_null_thunk(b: &[u8], machine: Machine) -> Read
     )
 }
 
-// A weak external.
+// A weak external. Its first symbol is absolute: other bytes are refused before anything is drawn.
 fn read_weak(b: &[u8], machine: Machine) -> Read
     requires { ⌜ Ordinary machine ⌝ }
     requires { ⌜ First machine (now b) ⌝ }
     ensures { λ r. ⌜ r ≡ answer (now (b .entry)) (weakGuess (now (b .entry))) ⌝ }
 {
+    if b.len() < WEAK_STRINGS_AT {
+        return REFUSED;
+    }
+    if Symbol::read(b, DATA_AT_1).section_number != IMAGE_SYM_ABSOLUTE {
+        return REFUSED;
+    }
     let target = texts::text(b, WEAK_STRINGS_AT);
     let alias = texts::text(b, WEAK_STRINGS_AT + (target.len() + NUL));
     answers::as_weak(b, machine.number, target, alias)
