@@ -16,11 +16,6 @@ unfoldable pub renamedOf : Bytes → Bytes → Renaming → Option Bytes
 renamedOf s to (Of at end skip) = some (take at s ++ drop skip to ++ drop end s)
 renamedOf s to Fails = none
 
--- how long it is
-abbrev pub lengthOf : Bytes → Bytes → Renaming → ℕ
-lengthOf s to (Of at end skip) = at + (length to - skip) + (length s - end)
-lengthOf s to Fails = 0
-
 -- the places that a renaming names; 0 where it fails
 abbrev pub atOf : Renaming → ℕ
 atOf (Of at end skip) = at

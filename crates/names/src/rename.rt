@@ -4,7 +4,7 @@ ghost use mathlib.Core.Path.{_≡_};
 ghost use mathlib.Core.List.{_++_};
 ghost use lib.ListN.{length, take, drop};
 ghost use Rattle.format.specs.Names.{replaceOnce, replace};
-ghost use Rattle.names.specs.Rename.{Located, Renamed, Room, lengthOf, atOf, endOf, skipOf};
+ghost use Rattle.names.specs.Rename.{Located, Renamed, Room};
 ghost use Rattle.names.specs.Built.{Built};
 use crate::built::BuiltName;
 use crate::built::fresh;
@@ -53,17 +53,6 @@ pub fn locate(s: &[u8], from: &[u8], to: &[u8]) -> Renaming
         }
     }
     Renaming::Fails
-}
-
-// How long the name is that a renaming gives.
-pub fn renamed_len(s: &[u8], to: &[u8], r: Renaming) -> usize
-    requires { ⌜ (endOf r ≤ length (now s)) × (atOf r ≤ endOf r) × (skipOf r ≤ length (now to)) ⌝ }
-    ensures { λ n. ⌜ n ≡ lengthOf (now (s .entry)) (now (to .entry)) r ⌝ }
-{
-    match r {
-        Renaming::Of { at, end, skip } => at + (to.len() - skip) + (s.len() - end),
-        Renaming::Fails => 0,
-    }
 }
 
 // The bytes of s, with those from at to end replaced by those of to from skip on.
