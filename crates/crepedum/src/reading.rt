@@ -1,7 +1,7 @@
 // The reader, for programs in other languages: an answer is a number, and fields that the caller lends.
 use format::Read;
 use format::Span;
-ghost use Prim.Native.Nat.{_+_, _≤_};
+ghost use Prim.Native.Nat.{_+_, _≤_, _<_};
 ghost use mathlib.Core.Path.{_≡_};
 ghost use mathlib.Core.List.{_∷_, _++_};
 ghost use lib.ListN.{length, drop};
@@ -30,6 +30,18 @@ fn bit(flag: bool) -> u32
 {
     if flag {
         return 1;
+    }
+    0
+}
+
+// A length as a field. The test is never false; without it, two halves of a span would be loaded as one, which waits for both
+// to be stored.
+fn narrow(length: usize) -> u32
+    requires { ⌜ length < 4294967296 ⌝ }
+    ensures { λ r. ⌜ r ≡ length ⌝ }
+{
+    if length < (NUMBER as usize) {
+        return length as u32;
     }
     0
 }
@@ -69,11 +81,11 @@ fn put_values(
         import_type as u32,
         bit(compat),
         first.start as u32,
-        first.length as u32,
+        narrow(first.length),
         second.start as u32,
-        second.length as u32,
+        narrow(second.length),
         third.start as u32,
-        third.length as u32,
+        narrow(third.length),
     ];
     put_all(fields, &values)
 }

@@ -5,8 +5,10 @@ use Rattle.crepedum.proofs.reading.put_values.Tie as tie
 
 returns : tie.Need-returns
 returns c =
-    let c₁₁ = c .before .before .before .before .before .before .before .before .before .before .before in
-    rw (c₁₁ .bit .ensures) at (c .before .before .put-all .ensures)
+    let third = c .before .before .before .before .before in
+    let second = third .before .before in
+    let first = second .before .before in
+    rw (first .before .before .bit .ensures, first .narrow .ensures, second .narrow2 .ensures, third .narrow3 .ensures) at (c .before .before .put-all .ensures)
 
 pub put-values-spec : {M : Type 1} → statement M
 put-values-spec =
