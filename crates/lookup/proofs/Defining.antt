@@ -1,5 +1,5 @@
 -- The symbols that a member defines, compared one by one with a symbol.
-use Prim.Native.Nat.{ℕ, _+_, _-_, _≤_}
+use Prim.Native.Nat.{ℕ, _+_, _-_, _%_, _≤_}
 use mathlib.Core.Path.{_≡_, refl, sym, ap, _∙_}
 use mathlib.Core.Bool.{Bool, true, false}
 use mathlib.Core.Option.{Option, none, some, Option·getD}
@@ -9,7 +9,7 @@ use native.Mathlib.Omega.{arith}
 use lib.ListN.{length, take, drop}
 use lib.Dec.{eqb}
 use borrow.Author.Tests.{eq-eqb, ne-eqb}
-use Rattle.wire.specs.Bytes.{Bytes, ascii, if_then_else_, same, part}
+use Rattle.wire.specs.Bytes.{Bytes, ascii, if_then_else_, u16At, u32At, same, part}
 use Rattle.wire.specs.Writes.{Found}
 use Rattle.wire.proofs.Bytes.{same-refl, same-differ}
 use Rattle.wire.proofs.Writes.{_⨟_, found-whole, whole-found}
@@ -17,12 +17,15 @@ use Rattle.wire.proofs.Parts.{part-last}
 use Rattle.format.specs.Machines.{arm64ec}
 use Rattle.format.specs.Names.{demangle}
 use Rattle.format.specs.Library.{imp}
-use Rattle.format.specs.Reader.{read}
+use Rattle.format.specs.Layouts.{importHeaderSize}
+use Rattle.format.specs.Reader.{textAt, weakStringsAt, shortGuess, weakGuess, guess, right, read}
 use Rattle.format.specs.Lookup.{shown, symbols, among}
 use Rattle.format.specs.declared.Span.{Span}
 use Rattle.names.specs.Mangler.{demangledOf, Demangles}
 use Rattle.names.specs.declared.mangler.Demangled.{Demangled}
 use Rattle.names.specs.declared.mangler.Demangled.the-variants.{Dropped, Cut, Fails}
+use Rattle.records.specs.Records.{importHeaderAt}
+use Rattle.records.specs.declared.ImportObjectHeader.{ImportObjectHeader}
 use Rattle.lookup.specs.Numbered.{shortSymbols, plainSymbols, hybridSymbols, symbolsOf}
 use Rattle.lookup.proofs.Saying.{Mute, SaidShort, SaidWeak}
 
@@ -89,12 +92,12 @@ module _ (s : Bytes) (k : ℕ) (x d : Bytes) where
 -- ---- the symbols of a short import
 
 pub symbols-plain : (m k : ℕ) (s : Bytes) → (m ≡ arm64ec → ⊥) → plainSymbols k (s ++ []) ≡ shortSymbols m k s
-unfolding plainSymbols shortSymbols shown
+unfolding plainSymbols symbols shown
 symbols-plain m k s n = rw (append-nil s, ne-eqb m arm64ec n)
 
 module _ (m k : ℕ) (s : Bytes) (ec : m ≡ arm64ec) where
   symbols-hybrid : (d : Bytes) → d ≡ Option·getD (demangle s) s → hybridSymbols k s d ≡ shortSymbols m k s
-  unfolding hybridSymbols shortSymbols shown
+  unfolding hybridSymbols symbols shown
   symbols-hybrid d e = rw (e, eq-eqb m arm64ec ec)
 
   module _ {r : Demangled} (d : Demangles s r) where
@@ -132,10 +135,36 @@ mute-defines b s h = ap (among s) (h .defines)
 
 pub short-defines : {t : Bool} {b : Bytes} {m o n k : ℕ} {p x : Span} (s : Bytes) {name : Bytes} → SaidShort b m o n k p x → name ≡ part b (p .start) (p .length)
     → t ≡ among s (shortSymbols m k name) → t ≡ among s (symbolsOf (read b))
-unfolding symbolsOf symbols shortSymbols
+unfolding symbolsOf symbols
 short-defines {m = m} {k = k} s h e f = f ∙ ap (λ (d : Bytes). among s (shortSymbols m k d)) e ∙ ap (λ o. among s (symbolsOf o)) (sym (h .is))
 
 pub weak-defines : {t : Bool} {b : Bytes} {m : ℕ} {target alias : Span} (s : Bytes) {name : Bytes} → SaidWeak b m target alias → name ≡ part b (alias .start) (alias .length)
     → t ≡ same s name → t ≡ among s (symbolsOf (read b))
 unfolding symbolsOf symbols
 weak-defines s {name} h e f = f ∙ sym (among-one s name) ∙ ap (λ (d : Bytes). among s (d ∷ [])) e ∙ ap (λ o. among s (symbolsOf o)) (sym (h .is))
+
+-- ---- a member that is not read
+
+-- what it would be read as tells what it does not define
+unread : (b s : Bytes) → among s (symbols (guess b)) ≡ false → among s (symbolsOf (read b)) ≡ false
+unfolding symbolsOf among read
+unread b s e = pick (right b (guess b))
+  where
+    pick : (q : Bool) → among s (symbolsOf (if q then some (guess b) else none)) ≡ false
+    pick true = e
+    pick false = refl
+
+pub may-short : {t : Bool} {h : ImportObjectHeader} {name : Bytes} (b s : Bytes) → u16At b 0 ≡ 0 → h ≡ importHeaderAt b 0 → name ≡ textAt b importHeaderSize
+    → t ≡ among s (shortSymbols (h .machine) (h .«name_type» % 4) name) → t ≡ false → among s (symbolsOf (read b)) ≡ false
+unfolding symbols guess shortGuess
+may-short b s z e f g h =
+    let q : guess b ≡ shortGuess b = rw (eq-eqb _ _ z) in
+    unread b s (ap (λ m. among s (symbols m)) q ∙ (rw (e, f) at (sym g)) ∙ h)
+
+pub may-weak : {t : Bool} {target alias : Bytes} (b s : Bytes) → (u16At b 0 ≡ 0 → ⊥) → u32At b 12 ≡ 5 → target ≡ textAt b weakStringsAt
+    → alias ≡ textAt b (weakStringsAt + (length target + 1)) → t ≡ same s alias → t ≡ false → among s (symbolsOf (read b)) ≡ false
+unfolding symbols guess weakGuess
+may-weak b s z e f g h i =
+    let q : guess b ≡ weakGuess b = rw (ne-eqb _ _ z, e) in
+    let a : textAt b (weakStringsAt + (length (textAt b weakStringsAt) + 1)) ≡ _ = sym (rw f at g) in
+    unread b s (ap (λ m. among s (symbols m)) q ∙ among-one s _ ∙ ap (same s) a ∙ sym h ∙ i)

@@ -5,3 +5,4 @@ pub mod Ordering
 pub mod Defining
 pub mod Entering
 pub mod Numbering
+pub mod Seeking

@@ -26,7 +26,9 @@ use Rattle.laws.proofs.ReadBack.{read-sound}
 use Rattle.search.specs.Search.{placeOf}
 use Rattle.search.specs.declared.Place.the-variants as P
 use Rattle.search.proofs.Searches.{first-here, first-later, place-at, place-nowhere}
-use Rattle.lookup.specs.Numbered.{bytesOf, memberAt, symbolsOf, definesAt, definerFrom, entryBy, ledBy, ledAt, stepFrom, answerFrom}
+use Rattle.lookup.specs.Numbered.{bytesOf, memberAt, symbolsOf, definesAt, definerFrom, entryBy, ledBy, ledAt, stepFrom, answerFrom, lookedFrom, ledAs, Within, Led}
+use Rattle.lookup.specs.declared.Lead.{Lead}
+use Rattle.lookup.specs.declared.Lead.the-variants as L
 use Rattle.lookup.proofs.Laying.{laid-count, laid-member, length-bytesOf}
 use Rattle.lookup.proofs.Saying.{Mute, SaidShort, SaidWeak}
 use Rattle.lookup.proofs.Ordering.{Valid, valid}
@@ -48,7 +50,7 @@ module _ (b s : Bytes) (i n : ℕ) where
       let q : n - i ≡ 0 = omega arith in
       ap (first (definesAt b s) i) q
 
-definer-at : (b s : Bytes) (i n j : ℕ) → definerFrom b s i n ≡ some j → j < i + n
+pub definer-at : (b s : Bytes) (i n j : ℕ) → definerFrom b s i n ≡ some j → j < i + n
 unfolding definerFrom
 definer-at b s i n j e = first-at (definesAt b s) i n j e .below
 
@@ -59,32 +61,50 @@ pub defines-at : {t : Bool} {m : Bytes} (b s : Bytes) (i : ℕ) → t ≡ among 
 unfolding definesAt memberAt
 defines-at b s i e f = e ∙ ap (λ (m : Bytes). among s (symbolsOf (read m))) f
 
--- ---- the answer, by what is found
+-- ---- where a member leads
 
-module _ (b : Bytes) (other : Looked) (weakly : Bytes → Looked) (q : Option ℕ) where
-  pub led-none : placeOf q ≡ P.Nowhere → other ≡ ledAt b other weakly q
+module _ {m : Bytes} (b : Bytes) (j : ℕ) (f : m ≡ bytesOf b j) where
+  led-read : (other : Looked) (weakly : Bytes → Looked) → ledBy other weakly (offsetAt b j) (read m) ≡ ledBy other weakly (offsetAt b j) (memberAt b j)
+  unfolding memberAt
+  led-read other weakly = ap (λ (m : Bytes). ledBy other weakly (offsetAt b j) (read m)) f
+
+  pub led-mute : Mute m → Led b j L.Nothing
+  led-mute h = record { leads = λ other weakly. h .leads other weakly (offsetAt b j) ∙ led-read other weakly; within = tt }
+
+  pub led-weak : {k : ℕ} {target alias : Span} → SaidWeak m k target alias → Led b j (L.Target target)
+  unfolding ledBy
+  led-weak {target = t} h =
+      record {
+        leads = λ other weakly.
+            ap (λ (d : Bytes). weakly (part d (t .start) (t .length))) (sym f) ∙ sym (ap (ledBy other weakly (offsetAt b j)) (h .is)) ∙ led-read other weakly;
+        within = record { inside = omega (arith, h .to .inside, ap length f) };
+      }
+
+  pub led-short : {r : Looked} {at k o t y : ℕ} {p x : Span} → SaidShort m k o t y p x → at ≡ offsetAt b j
+      → r ≡ entryBy at o t (p .start) (part m (p .start) (p .length)) x → Led b j (L.Answer r)
+  unfolding ledBy
+  led-short {o = o} {t} {p = p} {x} h g r =
+      record {
+        leads = λ other weakly.
+            r ∙ ap (λ (at : ℕ). entryBy at o t (p .start) (part m (p .start) (p .length)) x) g ∙ h .answers (offsetAt b j)
+            ∙ sym (ap (ledBy other weakly (offsetAt b j)) (h .is)) ∙ led-read other weakly;
+        within = tt;
+      }
+
+-- by which lead it is
+module _ (b : Bytes) (j : ℕ) {r : Lead} (q : Lead) (h : Led b j r) (e : r ≡ q) where
+  pub led-at : (other : Looked) (weakly : Bytes → Looked) → ledAs other weakly (bytesOf b j) q ≡ ledAt b other weakly (some j)
   unfolding ledAt
-  led-none e = rw (place-nowhere q e)
+  led-at other weakly = ap (ledAs other weakly (bytesOf b j)) (sym e) ∙ h .leads other weakly
 
-  module _ {m : Bytes} (j : ℕ) (e : placeOf q ≡ P.At j) (f : m ≡ bytesOf b j) where
-    led-some : ledBy other weakly (offsetAt b j) (read m) ≡ ledAt b other weakly q
-    unfolding ledAt memberAt
-    led-some = ap (λ (m : Bytes). ledBy other weakly (offsetAt b j) (read m)) f ∙ sym (ap (ledAt b other weakly) (place-at q j e))
+  pub led-within : Within (length (bytesOf b j)) q
+  led-within = subst (Within (length (bytesOf b j))) e (h .within)
 
-    pub led-mute : Mute m → other ≡ ledAt b other weakly q
-    led-mute h = h .leads other weakly (offsetAt b j) ∙ led-some
-
-    pub led-weak : {r : Looked} {name : Bytes} {k : ℕ} {target alias : Span} → SaidWeak m k target alias → name ≡ part m (target .start) (target .length)
-        → r ≡ weakly name → r ≡ ledAt b other weakly q
-    unfolding ledBy
-    led-weak h p g = g ∙ ap weakly p ∙ sym (ap (ledBy other weakly (offsetAt b j)) (h .is)) ∙ led-some
-
-    pub led-short : {r : Looked} {at k o t y : ℕ} {p x : Span} → SaidShort m k o t y p x → at ≡ offsetAt b j
-        → r ≡ entryBy at o t (p .start) (part m (p .start) (p .length)) x → r ≡ ledAt b other weakly q
-    unfolding ledBy
-    led-short {o = o} {t} {p = p} {x} h g r =
-        r ∙ ap (λ (at : ℕ). entryBy at o t (p .start) (part m (p .start) (p .length)) x) g ∙ h .answers (offsetAt b j)
-        ∙ sym (ap (ledBy other weakly (offsetAt b j)) (h .is)) ∙ led-some
+-- the target of a weak external
+pub led-target : {r : Looked} {m name : Bytes} (b : Bytes) (j : ℕ) (s : Span) (other : Looked) (weakly : Bytes → Looked)
+    → ledAs other weakly (bytesOf b j) (L.Target s) ≡ ledAt b other weakly (some j) → m ≡ bytesOf b j → name ≡ part m (s .start) (s .length) → r ≡ weakly name
+    → r ≡ ledAt b other weakly (some j)
+led-target b j s other weakly e f g h = h ∙ ap weakly (g ∙ ap (λ (d : Bytes). part d (s .start) (s .length)) f) ∙ e
 
 -- ---- the members of a list, by their numbers
 
@@ -152,13 +172,26 @@ module _ (b : Bytes) (i n : ℕ) (ps : List Placed) (e : readFrom b i n ≡ some
   lookup-from s = sym (ap (answer ps) (definer-placed b s i n ps e) ∙ answer-placed (definerFrom b s i n))
 
 -- as the functions have it
-pub step-by : {r : Looked} (b : Bytes) (i n : ℕ) (s : Bytes) → r ≡ ledAt b Nowhere (λ another. Nowhere) (definerFrom b s i n) → r ≡ stepFrom b i n s
-unfolding stepFrom
-step-by b i n s e = e
+module _ (b : Bytes) (i n : ℕ) (s : Bytes) where
+  pub step-none : placeOf (definerFrom b s i n) ≡ P.Nowhere → Nowhere ≡ stepFrom b i n s
+  unfolding stepFrom ledAt
+  step-none e = rw (place-nowhere (definerFrom b s i n) e)
 
-pub answer-by : {r : Looked} (b : Bytes) (i n : ℕ) (s : Bytes) → r ≡ ledAt b NotFound (stepFrom b i n) (definerFrom b s i n) → r ≡ answerFrom b i n s
-unfolding answerFrom
-answer-by b i n s e = e
+  pub step-at : {r : Looked} (j : ℕ) → placeOf (definerFrom b s i n) ≡ P.At j → r ≡ ledAt b Nowhere (λ another. Nowhere) (some j) → r ≡ stepFrom b i n s
+  unfolding stepFrom
+  step-at j e g = g ∙ ap (ledAt b Nowhere (λ another. Nowhere)) (sym (place-at (definerFrom b s i n) j e))
+
+  pub looked-refused : isSome (readSet b) ≡ false → Refused 17 0 ≡ lookedFrom b i n s
+  unfolding lookedFrom
+  looked-refused e = rw e
+
+  pub looked-none : isSome (readSet b) ≡ true → definerFrom b s i n ≡ none → NotFound ≡ lookedFrom b i n s
+  unfolding lookedFrom answerFrom ledAt
+  looked-none e f = rw (e, f)
+
+  pub looked-at : {r : Looked} (j : ℕ) → isSome (readSet b) ≡ true → definerFrom b s i n ≡ some j → r ≡ ledAt b NotFound (stepFrom b i n) (some j) → r ≡ lookedFrom b i n s
+  unfolding lookedFrom answerFrom
+  looked-at j e f g = rw (e, f) g
 
 -- ---- the first of some members, and those after them
 
@@ -224,16 +257,28 @@ module _ (b : Bytes) (v : Valid b) (s : Bytes) where
       (ap (λ (k : ℕ). readFrom b k (setNatives b)) (sym (zero-add (3 + setFirsts b))) ∙ p .others) s
       ∙ sym (lookup-valid l ∙ rw e)
 
-  -- by the numbers that the code has
-  pub looked-first : {r : Looked} {k : ℕ} (l : ℕ) → l ≡ 1 → k ≡ setFirsts b → r ≡ answerFrom b 3 (3 + k - 3) s → r ≡ lookup b l s
-  looked-first l e f g = g ∙ ap (λ (k : ℕ). answerFrom b 3 (3 + k - 3) s) f ∙ lookup-first l e
-
-  pub looked-native : {r : Looked} {k n : ℕ} (l : ℕ) → l ≡ 2 → k ≡ setFirsts b → n ≡ setCount b → r ≡ answerFrom b (3 + k) (n - (3 + k)) s → r ≡ lookup b l s
-  looked-native l e f h g = g ∙ ap₂ (λ (k n : ℕ). answerFrom b (3 + k) (n - (3 + k)) s) f h ∙ lookup-native l e
-
-  pub lookup-other : (l : ℕ) → (l ≡ 1 → ⊥) → (l ≡ 2 → ⊥) → NotFound ≡ lookup b l s
+  lookup-other : (l : ℕ) → (l ≡ 1 → ⊥) → (l ≡ 2 → ⊥) → NotFound ≡ lookup b l s
   unfolding listOf lookupIn answer definer
   lookup-other l n k = sym (lookup-valid l ∙ rw (ne-eqb l 1 n, ne-eqb l 2 k))
+
+-- whether the bytes are a set or not, by the numbers that the code has
+module _ (b : Bytes) (s : Bytes) (l : ℕ) where
+  looked-by : (i n : ℕ) → (Valid b → answerFrom b i n s ≡ lookup b l s) → lookedFrom b i n s ≡ lookup b l s
+  unfolding lookedFrom
+  looked-by i n f = pick (isSome (readSet b)) refl
+    where
+      pick : (t : Bool) → isSome (readSet b) ≡ t → (if t then answerFrom b i n s else Refused 17 0) ≡ lookup b l s
+      pick true e = f (valid b e)
+      pick false e = lookup-refused b l s e
+
+  pub looked-first : {r : Looked} {k : ℕ} → l ≡ 1 → k ≡ setFirsts b → r ≡ lookedFrom b 3 (3 + k - 3) s → r ≡ lookup b l s
+  looked-first e f g = g ∙ ap (λ (k : ℕ). lookedFrom b 3 (3 + k - 3) s) f ∙ looked-by _ _ (λ v. lookup-first b v s l e)
+
+  pub looked-native : {r : Looked} {k n : ℕ} → l ≡ 2 → k ≡ setFirsts b → n ≡ setCount b → r ≡ lookedFrom b (3 + k) (n - (3 + k)) s → r ≡ lookup b l s
+  looked-native e f h g = g ∙ ap₂ (λ (k n : ℕ). lookedFrom b (3 + k) (n - (3 + k)) s) f h ∙ looked-by _ _ (λ v. lookup-native b v s l e)
+
+  pub looked-other : (l ≡ 1 → ⊥) → (l ≡ 2 → ⊥) → isSome (readSet b) ≡ true → NotFound ≡ lookup b l s
+  looked-other n k e = lookup-other b (valid b e) s l n k
 
 -- ---- an answered name lies within the set
 

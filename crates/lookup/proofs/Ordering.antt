@@ -1,10 +1,10 @@
 -- Members read and in order, one after another: they are those of a member set.
 use Prim.Native.Nat.{ℕ, zero, suc, _+_, _-_, _≤_, _<_}
-use mathlib.Core.Path.{_≡_, refl, sym, ap, _∙_}
+use mathlib.Core.Path.{_≡_, refl, sym, ap, ap₂, _∙_}
 use mathlib.Core.Bool.{Bool, true, false, _&&_}
 use mathlib.Core.Option.{Option, none, some}
 use mathlib.Core.List.{List}
-use native.Mathlib.Nat.{sub-zero}
+use native.Mathlib.Nat.{sub-zero, add-zero, zero-add}
 use native.Mathlib.Omega.{arith}
 use lib.Dec.{eqb}
 use borrow.Author.Tests.{eq-eqb, ne-eqb, eqb-true, eqb-false}
@@ -35,9 +35,6 @@ next-small r h = pick (eqb r 3) refl
 -- ---- one after another up to the n-th
 
 module _ (b : Bytes) (n : ℕ) where
-  pub ranked-start : rankedFrom b 0 0 n ≡ rankedFrom b 0 0 (n - 0)
-  ranked-start = ap (rankedFrom b 0 0) (sym (sub-zero n))
-
   module _ (r i : ℕ) where
     ranked-here : i < n → rankOf (memberAt b i) ≡ r → rankedFrom b r i (n - i) ≡ rankedFrom b (nextRank r) (i + 1) (n - (i + 1))
     unfolding rankedFrom
@@ -59,6 +56,42 @@ module _ (b : Bytes) (n : ℕ) where
     ranked-end h =
         let q : n - i ≡ 0 = omega arith in
         ap (rankedFrom b r i) q
+
+-- ---- some members, and those after them
+
+-- the rank after so many
+unfoldable after : ℕ → ℕ → ℕ
+after r zero = r
+after r (suc k) = after (nextRank r) k
+
+after-listed : (k : ℕ) → after 3 k ≡ 3
+unfolding after nextRank
+after-listed zero = refl
+after-listed (suc k) = after-listed k
+
+after-fixed : (k : ℕ) → 3 ≤ k → after 0 k ≡ 3
+unfolding after nextRank
+after-fixed zero h = absurd (omega arith)
+after-fixed (suc zero) h = absurd (omega arith)
+after-fixed (suc (suc zero)) h = absurd (omega arith)
+after-fixed (suc (suc (suc k))) h = after-listed k
+
+ranked-split : (b : Bytes) (r i k n m : ℕ) → m ≡ k + n → rankedFrom b r i m ≡ (if rankedFrom b r i k then rankedFrom b (after r k) (i + k) n else false)
+unfolding rankedFrom after
+ranked-split b r i zero n m e =
+    let z : m ≡ n = omega arith in
+    ap (rankedFrom b r i) z ∙ ap (λ (j : ℕ). rankedFrom b r j n) (sym (add-zero i))
+ranked-split b r i (suc k) n zero e = absurd (omega arith)
+ranked-split b r i (suc k) n (suc m) e = pick (eqb (rankOf (memberAt b i)) r) (ranked-split b (nextRank r) (i + 1) k n m (omega arith))
+  where
+    pick : (t : Bool)
+        → rankedFrom b (nextRank r) (i + 1) m ≡ (if rankedFrom b (nextRank r) (i + 1) k then rankedFrom b (after (nextRank r) k) (i + 1 + k) n else false)
+        → (if t then rankedFrom b (nextRank r) (i + 1) m else false)
+        ≡ (if (if t then rankedFrom b (nextRank r) (i + 1) k else false) then rankedFrom b (after (nextRank r) k) (i + suc k) n else false)
+    pick true ih =
+        let place : i + 1 + k ≡ i + suc k = omega arith in
+        ih ∙ ap (λ (j : ℕ). if rankedFrom b (nextRank r) (i + 1) k then rankedFrom b (after (nextRank r) k) j n else false) place
+    pick false ih = refl
 
 -- ---- the members of a set
 
@@ -99,13 +132,35 @@ ordered-if (some ps) = pick (ordered 0 ps)
     pick true = refl
     pick false = refl
 
-pub valid-by : {t : Bool} (b : Bytes) → laidOut b ≡ true → t ≡ rankedFrom b 0 0 (setCount b) → t ≡ isSome (readSet b)
+-- bytes laid out as a set are one where their members are in order
+ordered-set : (b : Bytes) → laidOut b ≡ true → isSome (readSet b) ≡ rankedFrom b 0 0 (setCount b)
 unfolding readSet
-valid-by b l e = rw l (e ∙ ranked-read b 0 0 (setCount b) (omega arith) ∙ ordered-if (readFrom b 0 (setCount b)))
+ordered-set b l = rw l (sym (ranked-read b 0 0 (setCount b) (omega arith) ∙ ordered-if (readFrom b 0 (setCount b))))
 
-pub invalid : (b : Bytes) → laidOut b ≡ false → false ≡ isSome (readSet b)
+pub unlaid : (b : Bytes) → laidOut b ≡ false → isSome (readSet b) ≡ false
 unfolding readSet isSome
-invalid b l = rw l
+unlaid b l = rw l
+
+-- as the functions have it: all members looked at, or those before the f-th and those from it on
+module _ (b : Bytes) (laid : laidOut b ≡ true) where
+  pub set-whole : {t : Bool} {n : ℕ} → n ≡ setCount b → t ≡ rankedFrom b 0 0 (n - 0) → isSome (readSet b) ≡ t
+  set-whole e g = ordered-set b laid ∙ sym (g ∙ ap (rankedFrom b 0 0) (sub-zero _ ∙ e))
+
+  module _ (f : ℕ) (listed : 3 ≤ f) (inside : f ≤ setCount b) where
+    set-parts : isSome (readSet b) ≡ (if rankedFrom b 0 0 f then rankedFrom b 3 f (setCount b - f) else false)
+    set-parts =
+        ordered-set b laid ∙ ranked-split b 0 0 f (setCount b - f) (setCount b) (omega arith)
+        ∙ ap₂ (λ (r i : ℕ). if rankedFrom b 0 0 f then rankedFrom b r i (setCount b - f) else false) (after-fixed f listed) (zero-add f)
+
+    pub set-refused : rankedFrom b 0 0 (f - 0) ≡ false → isSome (readSet b) ≡ false
+    set-refused e =
+        let q : rankedFrom b 0 0 f ≡ false = ap (rankedFrom b 0 0) (sym (sub-zero f)) ∙ e in
+        set-parts ∙ rw q
+
+    pub set-by : {t : Bool} → rankedFrom b 0 0 (f - 0) ≡ true → rankedFrom b 3 f (setCount b - f) ≡ t → isSome (readSet b) ≡ t
+    set-by e g =
+        let q : rankedFrom b 0 0 f ≡ true = ap (rankedFrom b 0 0) (sym (sub-zero f)) ∙ e in
+        set-parts ∙ rw q g
 
 -- bytes that are a member set
 pub record Valid (b : Bytes) : Type 0 where

@@ -1,22 +1,26 @@
 -- The lookup over a set's members by their numbers in the directory, where a member is what its bytes are read as.
 use Prim.Native.Nat.{ℕ, zero, suc, _+_, _≤_}
+use mathlib.Core.Path.{_≡_}
 use mathlib.Core.Bool.{Bool, true, false}
 use mathlib.Core.Option.{Option, none, some}
 use mathlib.Core.List.{List, [], _∷_, _++_}
 use lib.ListN.{length}
 use lib.Dec.{eqb}
-use Rattle.wire.specs.Bytes.{Bytes, ascii, if_then_else_, part, first}
-use Rattle.format.specs.Machines.{arm64ec}
+use Rattle.wire.specs.Bytes.{Bytes, ascii, if_then_else_, part, first, isSome}
 use Rattle.format.specs.Names.{apply, dropped}
 use Rattle.format.specs.Layouts.{Member, descriptor, nullDescriptor, nullThunk, short, weak}
 use Rattle.format.specs.Library.{imp}
 use Rattle.format.specs.Reader.{span, read}
-use Rattle.format.specs.Lookup.{shown, symbols, among, offsetAt, lengthAt, rank, entry}
+use Rattle.format.specs.Lookup.{symbols, among, offsetAt, lengthAt, rank, entry, readSet}
 use Rattle.format.specs.declared.Span.{Span}
 use Rattle.format.specs.declared.Read.{Read}
 use Rattle.format.specs.declared.Read.the-variants as R
 use Rattle.format.specs.declared.Looked.{Looked}
-use Rattle.format.specs.declared.Looked.the-variants.{NotFound, Nowhere, Ordinal, Name}
+use Rattle.format.specs.declared.Looked.the-variants.{NotFound, Nowhere, Ordinal, Name, Refused}
+use Rattle.lookup.specs.declared.Sought.{Sought}
+use Rattle.lookup.specs.declared.Sought.the-variants as S
+use Rattle.lookup.specs.declared.Lead.{Lead}
+use Rattle.lookup.specs.declared.Lead.the-variants as L
 
 -- the bytes of a member, and what they are read as
 unfoldable pub bytesOf : Bytes → ℕ → Bytes
@@ -51,9 +55,9 @@ rankedFrom b r i (suc n) = let later = rankedFrom b (nextRank r) (i + 1) n in if
 
 -- ---- the member that defines a symbol
 
--- the symbols of a short import, by its machine, its kind and its symbol
-unfoldable pub shortSymbols : ℕ → ℕ → Bytes → List Bytes
-shortSymbols m k s = imp (shown m s) ∷ (if eqb k 1 then [] else shown m s ∷ (if eqb m arm64ec then (ascii "__imp_aux_" ++ shown m s) ∷ s ∷ [] else []))
+-- the symbols of a short import, by its machine, its kind and its symbol; the rest of it has no part in them
+abbrev pub shortSymbols : ℕ → ℕ → Bytes → List Bytes
+shortSymbols m k s = symbols (short m 0 k 0 s [] [])
 
 -- the same, by d, of a machine that is not ARM64EC
 unfoldable pub plainSymbols : ℕ → Bytes → List Bytes
@@ -104,8 +108,37 @@ stepFrom b i n target = ledAt b Nowhere (λ another. Nowhere) (definerFrom b tar
 unfoldable pub answerFrom : Bytes → ℕ → ℕ → Bytes → Looked
 answerFrom b i n s = ledAt b NotFound (stepFrom b i n) (definerFrom b s i n)
 
+-- the same of any bytes that are laid out as a set
+unfoldable pub lookedFrom : Bytes → ℕ → ℕ → Bytes → Looked
+lookedFrom b i n s = if isSome (readSet b) then answerFrom b i n s else Refused 17 0
+
 -- ---- places within a member
 
 -- a part of so many bytes
 pub record Inside (s : Span) (n : ℕ) : Type 0 where
   pub inside : s .start + s .length ≤ n
+
+-- ---- what the functions answer on the way
+
+-- a pass, by whether the members are in order and which is the first that defines the symbol
+unfoldable pub soughtOf : Bool → Option ℕ → Sought
+soughtOf false q = S.Refused
+soughtOf true none = S.Nowhere
+soughtOf true (some j) = S.At j
+
+-- where a lead leads, by the member's bytes, as in `ledBy`
+abbrev pub ledAs : Looked → (Bytes → Looked) → Bytes → Lead → Looked
+ledAs other weakly m (L.Answer l) = l
+ledAs other weakly m (L.Target s) = weakly (part m (s .start) (s .length))
+ledAs other weakly m L.Nothing = other
+
+-- a target is a part of so many bytes
+abbrev pub Within : ℕ → Lead → Type 0
+Within n (L.Answer l) = Unit {0}
+Within n (L.Target s) = Inside s n
+Within n L.Nothing = Unit {0}
+
+-- where the i-th member leads
+pub record Led (b : Bytes) (i : ℕ) (r : Lead) : Type 0 where
+  pub leads : (other : Looked) (weakly : Bytes → Looked) → ledAs other weakly (bytesOf b i) r ≡ ledBy other weakly (offsetAt b i) (memberAt b i)
+  pub within : Within (length (bytesOf b i)) r

@@ -3,13 +3,13 @@ use format::Read;
 use layout::places::ENTRY_SIZE;
 use layout::places::FIXED_MEMBERS;
 use layout::places::SET_HEADER_SIZE;
-ghost use Prim.Native.Nat.{_+_, _*_, _≤_, _<_};
+ghost use Prim.Native.Nat.{_+_, _-_, _*_, _≤_, _<_};
 ghost use mathlib.Core.Path.{_≡_};
 ghost use mathlib.Core.Bool.{true};
 ghost use lib.ListN.{length};
-ghost use Rattle.wire.specs.Bytes.{u32At, isSome};
+ghost use Rattle.wire.specs.Bytes.{u32At};
 ghost use Rattle.format.specs.Library.{firstMemberAt};
-ghost use Rattle.format.specs.Lookup.{offsetAt, lengthAt, setCount, setFirsts, backToBack, laidOut, readSet};
+ghost use Rattle.format.specs.Lookup.{offsetAt, lengthAt, setCount, setFirsts, backToBack, laidOut};
 ghost use Rattle.lookup.specs.Numbered.{bytesOf, rankRead, nextRank, rankedFrom};
 
 // Where the fields of the header stand: how many members there are, how many of each list, and where the first stands.
@@ -24,8 +24,10 @@ const FIRST_MEMBER: usize = 12;
 // Where the length stands in a member's entry, after the offset.
 const LENGTH: usize = 4;
 
-// The rank of the members of the lists.
-const LISTED: u32 = 3;
+// The rank of the first member, and of the members of the lists.
+pub const FIRST_RANK: u32 = 0;
+
+pub const LISTED: u32 = 3;
 
 // ---- fields
 
@@ -89,7 +91,7 @@ fn back_to_back(set: &[u8], at: usize, count: usize) -> bool
 }
 
 // Whether bytes are laid out as a member set.
-fn laid_out(set: &[u8]) -> bool
+pub fn laid_out(set: &[u8]) -> bool
     ensures { λ r. ⌜ r ≡ laidOut (now (set .entry)) ⌝ }
 {
     if set.len() < SET_HEADER_SIZE {
@@ -124,7 +126,7 @@ pub fn member_at(set: &[u8], i: usize) -> &[u8]
 }
 
 // Which place a member may take.
-fn rank(read: Read) -> u32
+pub fn rank(read: Read) -> u32
     ensures { λ r. ⌜ r ≡ rankRead read ⌝ }
 {
     match read {
@@ -133,7 +135,7 @@ fn rank(read: Read) -> u32
             compat: _,
             dll: _,
             stem: _,
-        } => 0,
+        } => FIRST_RANK,
         Read::NullDescriptor {
             machine: _,
             compat: _,
@@ -175,15 +177,16 @@ fn next_rank(rank: u32) -> u32
     rank + 1
 }
 
-// Whether every member is read: the fixed three first in order, and those of the lists after them.
-fn ranked(set: &[u8]) -> bool
+// Whether each member from one up to another is read, in order from a rank on: the fixed three, and those of the lists after
+// them.
+pub fn ranked(set: &[u8], first: u32, from: usize, to: usize) -> bool
     requires { ⌜ laidOut (now set) ≡ true ⌝ }
-    ensures { λ r. ⌜ r ≡ rankedFrom (now (set .entry)) 0 0 (setCount (now (set .entry))) ⌝ }
+    requires { ⌜ (first ≤ 3) × (to ≤ setCount (now set)) ⌝ }
+    ensures { λ r. ⌜ r ≡ rankedFrom (now (set .entry)) first from (to - from) ⌝ }
 {
-    let n = count(set);
-    let mut expected = 0;
-    let mut i = 0;
-    while i < n {
+    let mut expected = first;
+    let mut i = from;
+    while i < to {
         if rank(reader::read(member_at(set, i))) != expected {
             return false;
         }
@@ -191,14 +194,4 @@ fn ranked(set: &[u8]) -> bool
         i += 1;
     }
     true
-}
-
-// Whether bytes are a member set.
-pub fn valid(set: &[u8]) -> bool
-    ensures { λ r. ⌜ r ≡ isSome (readSet (now (set .entry))) ⌝ }
-{
-    if !laid_out(set) {
-        return false;
-    }
-    ranked(set)
 }

@@ -1,13 +1,22 @@
 // The symbols that a member defines, compared with one without building any.
 use coff::constants::IMAGE_FILE_MACHINE_ARM64EC;
+use finds::strings::SYMBOL_AT;
+use finds::strings::WEAK_STRINGS_AT;
 use format::Read;
+use layout::places::WEAK_SYMBOLS;
+use layout::tables::NUL;
 use members::IMP_PREFIX;
+use members::NAME_TYPE;
 use names::mangler;
 use names::mangler::Demangled;
+use reader::texts;
+use records::FileHeader;
+use records::ImportObjectHeader;
 ghost use mathlib.Core.Path.{_≡_};
+ghost use mathlib.Core.Bool.{false};
 ghost use mathlib.Core.List.{_++_};
 ghost use Rattle.wire.specs.Bytes.{same};
-ghost use Rattle.format.specs.Reader.{read};
+ghost use Rattle.format.specs.Reader.{read, readFields};
 ghost use Rattle.format.specs.Lookup.{among};
 ghost use Rattle.lookup.specs.Numbered.{shortSymbols, plainSymbols, hybridSymbols, symbolsOf};
 
@@ -81,11 +90,33 @@ fn defines_short(s: &[u8], machine: u16, kind: u16, name: &[u8]) -> bool
     }
 }
 
-// Whether a member, by its bytes, defines the symbol s.
-pub fn defines(member: &[u8], s: &[u8]) -> bool
+// Whether a member, were it read, might define the symbol s. Its names alone are looked at.
+fn may_define(member: &[u8], s: &[u8]) -> bool
+    ensures { λ r. ⌜ (r ≡ false → among (now (s .entry)) (symbolsOf (read (now (member .entry)))) ≡ false) ⌝ }
+{
+    if member.len() < SYMBOL_AT {
+        return true;
+    }
+    let file = FileHeader::read(member, 0);
+    if file.machine == 0 {
+        let header = ImportObjectHeader::read(member, 0);
+        let name = texts::text(member, SYMBOL_AT);
+        return defines_short(s, header.machine, header.name_type % NAME_TYPE, name);
+    }
+    if file.number_of_symbols == WEAK_SYMBOLS {
+        let target = texts::text(member, WEAK_STRINGS_AT);
+        let alias = texts::text(member, WEAK_STRINGS_AT + (target.len() + NUL));
+        return wire::same(s, alias);
+    }
+    true
+}
+
+// Whether a member, by its bytes and what they are read as, defines the symbol s.
+pub fn defines(member: &[u8], said: Read, s: &[u8]) -> bool
+    requires { ⌜ said ≡ readFields (now member) ⌝ }
     ensures { λ r. ⌜ r ≡ among (now (s .entry)) (symbolsOf (read (now (member .entry)))) ⌝ }
 {
-    match reader::read(member) {
+    match said {
         Read::Descriptor {
             machine: _,
             compat: _,
@@ -126,4 +157,14 @@ pub fn defines(member: &[u8], s: &[u8]) -> bool
             place: _,
         } => false,
     }
+}
+
+// Whether a member, by its bytes, defines the symbol s. It is read only where its names are the symbol's.
+pub fn bytes_define(member: &[u8], s: &[u8]) -> bool
+    ensures { λ r. ⌜ r ≡ among (now (s .entry)) (symbolsOf (read (now (member .entry)))) ⌝ }
+{
+    if !may_define(member, s) {
+        return false;
+    }
+    defines(member, reader::read(member), s)
 }

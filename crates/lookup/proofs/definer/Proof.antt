@@ -24,7 +24,7 @@ member-at-requires c κs = let p = c .before .before .before .before .pre in (p 
 returns : tie.Need-returns Inv-loop μ-loop
 returns c =
     let l = c .before .before .before .before .loop in
-    let d = defines-at _ _ _ (c .before .defines .ensures) (c .before .before .member-at .ensures .0) in
+    let d = defines-at _ _ _ (c .before .bytes-define .ensures) (c .before .before .member-at .ensures .0) in
     sym (ap placeOf (l .inv .2 ∙ definer-here _ _ (l .i) _ (c .before .before .before .loop-test .taken) (sym d ∙ c .if1 .taken)))
 
 add-i : tie.Need-add-i Inv-loop μ-loop
@@ -37,7 +37,7 @@ loop-again : tie.Need-loop-again Inv-loop μ-loop
 loop-again c =
     let c₃ = c .before .before .before in
     let c₄ = c₃ .before in
-    let l = c₄ .loop in let d = defines-at _ _ _ (c .before .defines .ensures) (c .before .before .member-at .ensures .0) in
+    let l = c₄ .loop in let d = defines-at _ _ _ (c .before .bytes-define .ensures) (c .before .before .member-at .ensures .0) in
     (omega (arith, l .inv .0), omega (arith, c₃ .loop-test .taken), l .inv .2 ∙ definer-later _ _ (l .i) _ (c₃ .loop-test .taken) (sym d ∙ c .if1 .left))
 
 returns-2 : tie.Need-returns-2 Inv-loop μ-loop

@@ -1,44 +1,38 @@
 -- `lookup::sets::ranked` meets its contract. The loop's invariant: the members from the i-th on are in order from `expected` on.
 use Prim.Native.Nat.{_-_, _≤_}
-use mathlib.Core.Path.{_≡_, sym, ap, _∙_}
+use mathlib.Core.Path.{_≡_, refl, sym, _∙_}
 use native.Mathlib.Omega.{arith}
-use Rattle.format.specs.Lookup.{setCount}
 use Rattle.lookup.specs.Numbered.{rankedFrom}
 use Rattle.lookup.proofs.Saying.{rank-at}
-use Rattle.lookup.proofs.Ordering.{ranked-start, ranked-next, ranked-not, ranked-end}
+use Rattle.lookup.proofs.Ordering.{ranked-next, ranked-not, ranked-end}
 use borrow.Author.Needs.{needs}
 use Rattle.lookup.proofs.sets.ranked.Statement.{statement}
 use Rattle.lookup.proofs.sets.ranked.Tie as tie
 
 abbrev Inv-loop : tie.InvT-loop
-Inv-loop set n expected₀ i₀ expected i = (i ≤ n) × (expected ≤ 3) × (rankedFrom set 0 0 (setCount set) ≡ rankedFrom set expected i (n - i))
+Inv-loop set first from to expected₀ i₀ expected i = (expected ≤ 3) × (rankedFrom set first from (to - from) ≡ rankedFrom set expected i (to - i))
 
 abbrev μ-loop : tie.MeasureT-loop
-μ-loop set n expected₀ i₀ expected i = n - i
-
-count-requires : tie.Need-count-requires Inv-loop μ-loop
-count-requires c κs = c .before .pre
+μ-loop set first from to expected₀ i₀ expected i = to - i
 
 loop-holds : tie.Need-loop-holds Inv-loop μ-loop
-loop-holds c = (omega arith, omega arith, ap (rankedFrom (c .before .before .args .set .now) 0 0) (sym (c .count .ensures .0)) ∙ ranked-start _ _)
+loop-holds c = (c .before .pre .1 .0, refl)
 
 member-at-requires : tie.Need-member-at-requires Inv-loop μ-loop
-member-at-requires c κs = (c .before .before .before .before .pre, omega (arith, c .loop-test .taken, c .before .before .count .ensures .0))
+member-at-requires c κs = let p = c .before .before .before .pre in (p .0, omega (arith, c .loop-test .taken, p .1 .1))
 
 returns : tie.Need-returns Inv-loop μ-loop
 returns c =
-    let l = c .before .before .before .before .before .loop in
+    let c₄ = c .before .before .before .before in
+    let l = c₄ .before .loop in
     let r = rank-at _ _ (c .before .rank .ensures) (c .before .before .read .ensures) (c .before .before .before .member-at .ensures .0) in
-    sym (l .inv .2 ∙ ranked-not _ _ (l .expected) (l .i) (c .before .before .before .before .loop-test .taken) (λ e. c .if1 .taken (r ∙ e)))
+    sym (l .inv .1 ∙ ranked-not _ _ (l .expected) (l .i) (c₄ .loop-test .taken) (λ e. c .if1 .taken (r ∙ e)))
 
 next-rank-requires : tie.Need-next-rank-requires Inv-loop μ-loop
-next-rank-requires c κs = c .before .before .before .before .before .loop .inv .1
+next-rank-requires c κs = c .before .before .before .before .before .loop .inv .0
 
 add-i : tie.Need-add-i Inv-loop μ-loop
-add-i c =
-    let c₅ = c .before .before .before .before .before in
-    let c₇ = c₅ .before .before in
-    omega (arith, c₅ .loop-test .taken, c₇ .count .ensures .1)
+add-i c = omega (arith, c .before .before .before .before .before .loop-test .taken)
 
 loop-less : tie.Need-loop-less Inv-loop μ-loop
 loop-less c = omega (arith, c .before .before .before .before .before .loop-test .taken)
@@ -46,19 +40,18 @@ loop-less c = omega (arith, c .before .before .before .before .before .loop-test
 loop-again : tie.Need-loop-again Inv-loop μ-loop
 loop-again c =
     let c₃ = c .before .before .before in
-    let c₄ = c₃ .before in
-    let c₅ = c₄ .before in
-    let c₆ = c₅ .before in
-    let l = c₆ .loop in let r = rank-at _ _ (c .before .before .rank .ensures) (c₃ .read .ensures) (c₄ .member-at .ensures .0) in
-    (omega (arith, c₅ .loop-test .taken), c .next-rank .ensures .1, l .inv .2 ∙ ranked-next _ _ (l .expected) (l .i) (c₅ .loop-test .taken) (sym r ∙ c .before .if1 .left) (c .next-rank .ensures .0))
+    let c₅ = c₃ .before .before in
+    let l = c₅ .before .loop in
+    let r = rank-at _ _ (c .before .before .rank .ensures) (c₃ .read .ensures) (c₃ .before .member-at .ensures .0) in
+    (c .next-rank .ensures .1, l .inv .1 ∙ ranked-next _ _ (l .expected) (l .i) (c₅ .loop-test .taken) (sym r ∙ c .before .if1 .left) (c .next-rank .ensures .0))
 
 returns-2 : tie.Need-returns-2 Inv-loop μ-loop
 returns-2 c =
     let l = c .before .loop in
-    sym (l .inv .2 ∙ ranked-end _ _ (l .expected) (l .i) (c .loop-test .left))
+    sym (l .inv .1 ∙ ranked-end _ _ (l .expected) (l .i) (c .loop-test .left))
 
 pub ranked-spec : {M : Type 1} → statement M
 ranked-spec =
     tie.close
-    (tie.spec Inv-loop μ-loop count-requires loop-holds member-at-requires (λ c κs. search needs) (λ c κs. search needs) returns
+    (tie.spec Inv-loop μ-loop loop-holds member-at-requires (λ c κs. search needs) (λ c κs. search needs) returns
     next-rank-requires add-i loop-less loop-again returns-2)
