@@ -4,12 +4,12 @@ pub mod looking; // looking.rt: the lookup
 
 use format::Checked;
 use format::Written;
+use keys::Row;
 ghost use mathlib.Core.Path.{_≡_};
 ghost use mathlib.Core.Bool.{Bool};
-ghost use lib.ListN.{length};
 ghost use Rattle.format.specs.Refusals.{checkExports};
-ghost use Rattle.format.specs.Answers.{asked, written, outputAfter};
-ghost use Rattle.crepedum.specs.Words.{checkWord, writtenWord};
+ghost use Rattle.format.specs.Answers.{asked};
+ghost use Rattle.crepedum.specs.Words.{checkWord, writtenWord, WritesWord};
 
 // An answer of a check as one number: 0, or the refusal's number times 2^32, plus its place.
 fn check_word(c: Checked) -> u64
@@ -52,16 +52,24 @@ pub extern "C" fn crepedum_total(
     written_word(library::total(list, machine, mingw, whole_archive_compat))
 }
 
-// Writes the member set of any bytes.
+// Writes the member set of any bytes, with a table of slots to work in.
 #[no_mangle]
 pub extern "C" fn crepedum_write(
     list: &[u8],
     machine: u32,
     mingw: bool,
     whole_archive_compat: bool,
+    slots: &mut [Row],
     out: &mut [u8],
 ) -> u64
-    ensures { λ r. ⌜ (r ≡ writtenWord (written (record { machine = machine; mingw = mingw; compat = «whole_archive_compat» }) (now (list .entry)) (length (now (out .entry))))) × (now (out .exit) ≡ outputAfter (record { machine = machine; mingw = mingw; compat = «whole_archive_compat» }) (now (list .entry)) (now (out .entry))) ⌝ }
+    ensures { λ r. ⌜ WritesWord (record { machine = machine; mingw = mingw; compat = «whole_archive_compat» }) (now (list .entry)) (now (slots .entry)) (now (out .entry)) r (now (slots .exit)) (now (out .exit)) ⌝ }
 {
-    written_word(library::write(list, machine, mingw, whole_archive_compat, out))
+    written_word(library::write(
+        list,
+        machine,
+        mingw,
+        whole_archive_compat,
+        slots,
+        out,
+    ))
 }

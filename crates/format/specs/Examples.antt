@@ -148,8 +148,10 @@ pub table :
     -- P1
     (numbers 10 (memberSet (on amd64) (list [])) ≡ 3 ∷ 0 ∷ 0 ∷ 40 ∷ 40 ∷ 358 ∷ 398 ∷ 127 ∷ 525 ∷ 159 ∷ [])
     × (length (memberSet (on amd64) (list [])) ≡ 684)
-    × (written (on amd64) (list []) 684 ≡ W.Total 684)
-    × (written (on amd64) (list []) 683 ≡ W.Refused 15 0)
+    × (written (on amd64) (list []) 8192 684 ≡ W.Total 684)
+    × (written (on amd64) (list []) 8192 683 ≡ W.Refused 15 0)
+    × (written (on amd64) (list []) 8193 684 ≡ W.Total 684)
+    × (written (on amd64) (list []) 8191 683 ≡ W.Refused 19 0)
     -- P2, with the null thunk's symbol table at 108
     × (numbers 10 (memberSet (on i386) (list [])) ≡ 3 ∷ 0 ∷ 0 ∷ 40 ∷ 40 ∷ 358 ∷ 398 ∷ 127 ∷ 525 ∷ 151 ∷ [])
     × (length (memberSet (on i386) (list [])) ≡ 676)
@@ -230,8 +232,8 @@ pub table :
     × (readFields (encode (exporting arm64ec "#" "")) ≡ R.Refused 16 0)
     × (readFields (encode (weak amd64 [] (ascii "a"))) ≡ R.Refused 16 0)
     -- refusals: order and places
-    × (written (on 0x1014C) [] 0 ≡ W.Refused 1 0)
-    × (written (on amd64) (part (list []) 0 27) 0 ≡ W.Refused 2 0)
+    × (written (on 0x1014C) [] 0 0 ≡ W.Refused 1 0)
+    × (written (on amd64) (part (list []) 0 27) 0 0 ≡ W.Refused 2 0)
     × (checkExports (on amd64) (le32 4097 ++ drop 4 (list [])) ≡ Refused 3 0)
     × (checkExports (on amd64) (le32 4096 ++ le32 4096 ++ drop 8 (list [])) ≡ Refused 4 0)
     × (checkExports (on amd64) (le32 0 ++ le32 0 ++ le32 29 ++ drop 12 (list [])) ≡ Refused 4 0)
@@ -280,7 +282,7 @@ pub table :
     × (asked (on amd64) (list []) ≡ W.Total 684)
     × (asked (compatOn amd64) (list []) ≡ W.Total 692)
     × (asked (on amd64) (lists (named "f" 0 0 ∷ []) (renamed "a" "b" "_b" ∷ [])) ≡ W.Refused 11 1)
-    × (part (outputAfter (on amd64) (list []) (replicate 686 9)) 682 4 ≡ 65 ∷ 0 ∷ 9 ∷ 9 ∷ [])
+    × (part (outputAfter (on amd64) (list []) 8192 (replicate 686 9)) 682 4 ≡ 65 ∷ 0 ∷ 9 ∷ 9 ∷ [])
     × (firsts arm64ec (wants "f" "f" isDatum ∷ []) ≡ short arm64ec 0 1 4 (ascii "f") dll (ascii "f") ∷ [])
     × (checkExports (on amd64) (part (list (named "f" 0 0 ∷ [])) 0 36 ++ le32 1 ++ drop 40 (list (named "f" 0 0 ∷ []))) ≡ Refused 6 0)
     × (lookup (memberSet (on amd64) (lists [] (named "a" 0 0 ∷ []))) 3 (ascii "a") ≡ L.NotFound)
@@ -295,6 +297,8 @@ pub table :
     × (encode (weak i386 (ascii "t") (ascii "ab")) ≡ (76 ∷ 1 ∷ 1 ∷ 0 ∷ 0 ∷ 0 ∷ 0 ∷ 0 ∷ 60 ∷ 0 ∷ 0 ∷ 0 ∷ 5 ∷ 0 ∷ 0 ∷ 0 ∷ 0 ∷ 0 ∷ 0 ∷ 0 ∷ 46 ∷ 100 ∷ 114 ∷ 101 ∷ 99 ∷ 116 ∷ 118 ∷ 101 ∷ 0 ∷ 0 ∷ 0 ∷ 0 ∷ 0 ∷ 0 ∷ 0 ∷ 0 ∷ 0 ∷ 0 ∷ 0 ∷ 0 ∷ 0 ∷ 0 ∷ 0 ∷ 0 ∷ 0 ∷ 0 ∷ 0 ∷ 0 ∷ 0 ∷ 0 ∷ 0 ∷ 0 ∷ 0 ∷ 0 ∷ 0 ∷ 0 ∷ 0 ∷ 10 ∷ 0 ∷ 0 ∷ 64 ∷ 99 ∷ 111 ∷ 109 ∷ 112 ∷ 46 ∷ 105 ∷ 100 ∷ 0 ∷ 0 ∷ 0 ∷ 0 ∷ 255 ∷ 255 ∷ 0 ∷ 0 ∷ 3 ∷ 0 ∷ 64 ∷ 102 ∷ 101 ∷ 97 ∷ 116 ∷ 46 ∷ 48 ∷ 48 ∷ 0 ∷ 0 ∷ 0 ∷ 0 ∷ 255 ∷ 255 ∷ 0 ∷ 0 ∷ 3 ∷ 0 ∷ 0 ∷ 0 ∷ 0 ∷ 0 ∷ 4 ∷ 0 ∷ 0 ∷ 0 ∷ 0 ∷ 0 ∷ 0 ∷ 0 ∷ 0 ∷ 0 ∷ 0 ∷ 0 ∷ 2 ∷ 0 ∷ 0 ∷ 0 ∷ 0 ∷ 0 ∷ 6 ∷ 0 ∷ 0 ∷ 0 ∷ 0 ∷ 0 ∷ 0 ∷ 0 ∷ 0 ∷ 0 ∷ 0 ∷ 0 ∷ 105 ∷ 1 ∷ 2 ∷ 0 ∷ 0 ∷ 0 ∷ 3 ∷ 0 ∷ 0 ∷ 0 ∷ 0 ∷ 0 ∷ 0 ∷ 0 ∷ 0 ∷ 0 ∷ 0 ∷ 0 ∷ 0 ∷ 0 ∷ 9 ∷ 0 ∷ 0 ∷ 0 ∷ 116 ∷ 0 ∷ 97 ∷ 98 ∷ 0 ∷ []))
 unfolding Bytes.opened Machines.opened Exports.opened Names.opened Plan.opened Layouts.opened Library.opened Refusals.opened Reader.opened Lookup.opened Demands.opened Answers.opened
 table = (
+  refl,
+  refl,
   refl,
   refl,
   refl,

@@ -1,5 +1,5 @@
 -- 02, "Split asking from writing": the two operations agree wherever writing has no refusal of its own.
-use Prim.Native.Nat.{ℕ, zero, suc, _+_, _≤_}
+use Prim.Native.Nat.{ℕ, zero, suc, _+_, _≤_, _<_}
 use mathlib.Core.Path.{_≡_, refl, sym, _∙_}
 use mathlib.Core.Bool.{Bool, true, false, _&&_, _||_, not}
 use mathlib.Core.Option.{Option, none, some}
@@ -7,16 +7,16 @@ use mathlib.Core.List.{List, [], _∷_, _++_}
 use native.Mathlib.Omega.{arith}
 use lib.ListN.{length}
 use lib.Dec.{ltb, eqb}
-use borrow.Author.Tests.{ltb-true}
+use borrow.Author.Tests.{ltb-true, ltb-false}
 use Rattle.wire.specs.Bytes.{Bytes, if_then_else_, starts, isSome}
 use Rattle.format.specs.Machines.{firstMachine, nativeMachine}
 use Rattle.format.specs.Exports.{Export, firstCount, nativeCount, fieldAt, dllField, isPrivate, exportAt}
 use Rattle.format.specs.Names.{hash, question, tagged, demangle}
 use Rattle.format.specs.Plan.{Plan, plain, deferred, refused, publicName, plan}
 use Rattle.format.specs.Library.{Options, memberSet}
-use Rattle.format.specs.Refusals.{Row, earliest, machineRows, headerRows, stringRows, dllRows, maxDll, maxString, rowsFrom, fieldRows, recordRows, restRows, listRows, planRows, nameRows, exportRows, acceptRows, roomRows, checkExports}
+use Rattle.format.specs.Refusals.{Row, earliest, machineRows, headerRows, stringRows, dllRows, maxDll, maxString, rowsFrom, fieldRows, recordRows, restRows, listRows, planRows, nameRows, exportRows, acceptRows, tableSlots, ownRows, checkExports}
 use Rattle.format.specs.Answers.{total, asked, unless, written, writtenNumber}
-use Rattle.format.specs.Asking.{Exceeds, Split}
+use Rattle.format.specs.Asking.{TotalIs, Split}
 use Rattle.format.specs.declared.Checked.{Checked}
 use Rattle.format.specs.declared.Checked.the-variants.{Fine, Refused}
 use Rattle.format.specs.declared.Written.the-variants as W
@@ -107,20 +107,48 @@ asking-low o b =
 
 -- ---- the two operations
 
--- for every list, its options and any room
-pub split : (o : Options) (b : Bytes) (room : ℕ) → Split room (asked o b) (written o b room)
-unfolding asked written unless total roomRows earliest writtenNumber
-split o b room = pick (checkExports o b) (asking-low o b) (ltb room (length (memberSet o b))) refl
+-- for every list, its options, any number of slots and any room
+pub split : (o : Options) (b : Bytes) (slots room : ℕ) → Split slots room (asked o b) (written o b slots room)
+unfolding asked written unless total ownRows earliest writtenNumber
+split o b slots room =
+    pick (checkExports o b) (asking-low o b) (ltb slots tableSlots) refl (ltb room (length (memberSet o b))) refl
   where
-    pick : (c : Checked) → Low c → (t : Bool) → ltb room (length (memberSet o b)) ≡ t
-        → Split room (total c (length (memberSet o b))) (unless (if t then Refused 15 0 else Fine) (total c (length (memberSet o b))))
-    pick Fine l true h = record { asks = λ n p e. let z : _≡_ {A = ℕ} 0 1 = cc in absurd (omega arith); agree = λ f. absurd (f refl); short = λ e. ltb-true room (length (memberSet o b)) h }
-    pick Fine l false h = record { asks = λ n p e. let z : _≡_ {A = ℕ} 0 1 = cc in absurd (omega arith); agree = λ f. refl; short = λ e. absurd (omega arith) }
-    pick (Refused k q) (low, high) t h =
-        record { asks = λ n p e. let is : n ≡ k = cc in (omega arith, omega arith); agree = λ f. refl; short = λ e. absurd (omega arith) }
+    pick : (c : Checked) → Low c → (f : Bool) → ltb slots tableSlots ≡ f → (t : Bool) → ltb room (length (memberSet o b)) ≡ t
+        → Split slots room (total c (length (memberSet o b))) (unless (if f then Refused 19 0 else if t then Refused 15 0 else Fine) (total c (length (memberSet o b))))
+    pick Fine l true g t h =
+        record {
+          asks = λ n p e. let z : _≡_ {A = ℕ} 0 1 = cc in absurd (omega arith);
+          agree = λ x y. absurd (x refl);
+          few = λ e. ltb-true slots tableSlots g;
+          short = λ e. absurd (omega arith);
+        }
+    pick Fine l false g true h =
+        record {
+          asks = λ n p e. let z : _≡_ {A = ℕ} 0 1 = cc in absurd (omega arith);
+          agree = λ x y. absurd (y refl);
+          few = λ e. absurd (omega arith);
+          short = λ e. (ltb-false slots tableSlots g, ltb-true room (length (memberSet o b)) h);
+        }
+    pick Fine l false g false h =
+        record {
+          asks = λ n p e. let z : _≡_ {A = ℕ} 0 1 = cc in absurd (omega arith);
+          agree = λ x y. refl;
+          few = λ e. absurd (omega arith);
+          short = λ e. absurd (omega arith);
+        }
+    pick (Refused k q) (low, high) f g t h =
+        record {
+          asks = λ n p e. let is : n ≡ k = cc in (omega arith, omega arith);
+          agree = λ x y. refl;
+          few = λ e. absurd (omega arith);
+          short = λ e. absurd (omega arith);
+        }
 
--- so whoever asked and lends the total, or more, is not refused
-pub reserved : (o : Options) (b : Bytes) (room : ℕ) {n : ℕ} → asked o b ≡ W.Total n → n ≤ room → written o b room ≡ W.Total n
-reserved o b room e h =
-    let s = split o b room in
-    sym (s .agree (λ is. let over : Exceeds room (W.Total _) = rw e at (s .short is) in absurd (omega arith))) ∙ e
+-- so whoever asked and lends the total, or more, and a table, is not refused
+pub reserved : (o : Options) (b : Bytes) (slots room : ℕ) {n : ℕ} → asked o b ≡ W.Total n → tableSlots ≤ slots → n ≤ room → written o b slots room ≡ W.Total n
+reserved o b slots room {n} e enough h =
+    let s = split o b slots room in
+    sym
+    (s .agree (λ is. let few : slots < tableSlots = rw e at (s .few is) in absurd (omega arith))
+    (λ is. let over : (tableSlots ≤ slots) × (room < n) = rw e at (s .short is) in absurd (omega (arith, over .1))))
+    ∙ e

@@ -16,15 +16,18 @@ use Rattle.format.specs.Machines.{firstMachine, nativeMachine}
 use Rattle.format.specs.Exports.{firstCount, nativeCount, bothCounts, namesAt, dllField, offsetOf, lengthOf, bytesAt, dllName, exportsFrom, firstExports, nativeExports}
 use Rattle.format.specs.Layouts.{Member, encode}
 use Rattle.format.specs.Library.{Options, setHeaderSize, firstMemberAt, directory, membersOf, fixedMembers, firstMembers, nativeMembers, allMembers, setBytes, memberSet}
-use Rattle.format.specs.Refusals.{Row, row, earliest, roomRows, checkList, checkExports}
-use Rattle.format.specs.Answers.{total, asked, unless, written, leaves, outputAfter}
+use Rattle.format.specs.Refusals.{Row, row, earliest, tableSlots, ownRows, checkList, checkExports}
+use Rattle.format.specs.Answers.{total, asked, unless, written, leaves, outputAfter, writtenNumber, Writes}
 use Rattle.format.specs.declared.Checked.{Checked}
 use Rattle.format.specs.declared.Checked.the-variants.{Fine, Refused}
+use Rattle.format.specs.Asking.{TotalIs}
+use Rattle.format.specs.declared.Written.{Written}
 use Rattle.format.specs.declared.Written.the-variants as W
 use Rattle.format.proofs.Rows.{earliest-given, earliest-passed, earliest-none}
 use Rattle.format.proofs.Listed.{listed, dll-few, dll-inside}
 use Rattle.laws.proofs.Accepted.{accepted}
-use Rattle.laws.proofs.Refusals.{accepted-room}
+use Rattle.laws.proofs.Refusals.{accepted-own}
+use Rattle.laws.proofs.Asking.{split}
 use Rattle.laws.proofs.Totals.{first-few, native-few, members-small, length-directory, length-setBytes}
 use Rattle.coff.specs.Machines.{IsMachine}
 use Rattle.coff.specs.declared.machines.Machine.{Machine}
@@ -39,6 +42,9 @@ use Rattle.walks.proofs.Pens.{room-as, room-first, room-next, drew-as, drew-mor
 
 pub counts-small : (b : Bytes) {first native : ℕ} → checkList b ≡ Fine → first ≡ firstCount b → native ≡ nativeCount b → (first ≤ 4096) × (native ≤ 4096) × (first + native ≡ bothCounts b)
 counts-small b e f g = let l = listed b e in (omega (arith, l .shape .firsts), omega (arith, l .shape .natives), omega (arith, f, g))
+
+pub both-small : (b : Bytes) → checkList b ≡ Fine → bothCounts b ≤ 8192
+both-small b e = let l = listed b e in omega (arith, l .shape .firsts, l .shape .natives)
 
 pub dll-small : (b : Bytes) {s : Bytes} → checkList b ≡ Fine → s ≡ dllName b → length s ≤ 255
 unfolding bytesAt
@@ -235,28 +241,63 @@ module _ (o : Options) (b : Bytes) where
   unfolding asked total
   asked-total e t = rw (e, t)
 
-module _ (o : Options) (b out : Bytes) where
-  pub written-stop : (number place : ℕ) → checkExports o b ≡ Refused number place → (W.Refused number place ≡ written o b (length out)) × (out ≡ outputAfter o b out)
+module _ (o : Options) (b : Bytes) (slots : ℕ) (out : Bytes) where
+  pub written-stop : (number place : ℕ) → checkExports o b ≡ Refused number place → (W.Refused number place ≡ written o b slots (length out)) × (out ≡ outputAfter o b slots out)
   unfolding written asked unless total outputAfter leaves
   written-stop number place e = (rw e, rw e)
 
   module _ (e : checkExports o b ≡ Fine) where
+    abbrev slot-row : Row
+    slot-row = row 19 0 (ltb slots tableSlots)
+
     abbrev room-row : Row
     room-row = row 15 0 (ltb (length out) (length (memberSet o b)))
 
-    by-room : {c : Checked} → earliest (room-row ∷ []) ≡ c → written o b (length out) ≡ total c (length (memberSet o b))
-    unfolding roomRows
-    by-room f = accepted-room o b (length out) e ∙ ap (λ (c : Checked). total c (length (memberSet o b))) f
+    by-own : {c : Checked} → earliest (slot-row ∷ room-row ∷ []) ≡ c → written o b slots (length out) ≡ total c (length (memberSet o b))
+    unfolding ownRows
+    by-own f = accepted-own o b slots (length out) e ∙ ap (λ (c : Checked). total c (length (memberSet o b))) f
 
-    pub written-15 : length out < length (memberSet o b) → (W.Refused 15 0 ≡ written o b (length out)) × (out ≡ outputAfter o b out)
+    pub written-19 : slots < tableSlots → (W.Refused 19 0 ≡ written o b slots (length out)) × (out ≡ outputAfter o b slots out)
     unfolding total outputAfter leaves
-    written-15 h =
-        let stops : written o b (length out) ≡ W.Refused 15 0 = by-room (earliest-given room-row [] (lt-ltb (length out) (length (memberSet o b)) h)) in
+    written-19 h =
+        let stops : written o b slots (length out) ≡ W.Refused 19 0 = by-own (earliest-given slot-row (room-row ∷ []) (lt-ltb slots tableSlots h)) in
         (sym stops, rw stops)
 
-    pub written-total : {t : ℕ} {l : Bytes} → length (memberSet o b) ≤ length out → t ≡ length (memberSet o b) → l ≡ memberSet o b ++ drop (length (memberSet o b)) out
-        → (W.Total t ≡ written o b (length out)) × (l ≡ outputAfter o b out)
-    unfolding total outputAfter leaves
-    written-total h t l =
-        let fine : written o b (length out) ≡ W.Total (length (memberSet o b)) = by-room (earliest-passed room-row [] (le-ltb (length out) (length (memberSet o b)) h) ∙ earliest-none) in
-        (ap W.Total t ∙ sym fine, rw fine l)
+    module _ (enough : tableSlots ≤ slots) where
+      by-room : {c : Checked} → earliest (room-row ∷ []) ≡ c → written o b slots (length out) ≡ total c (length (memberSet o b))
+      by-room f = by-own (earliest-passed slot-row (room-row ∷ []) (le-ltb slots tableSlots enough) ∙ f)
+
+      pub written-15 : length out < length (memberSet o b) → (W.Refused 15 0 ≡ written o b slots (length out)) × (out ≡ outputAfter o b slots out)
+      unfolding total outputAfter leaves
+      written-15 h =
+          let stops : written o b slots (length out) ≡ W.Refused 15 0 = by-room (earliest-given room-row [] (lt-ltb (length out) (length (memberSet o b)) h)) in
+          (sym stops, rw stops)
+
+      pub written-total : {t : ℕ} {l : Bytes} → length (memberSet o b) ≤ length out → t ≡ length (memberSet o b) → l ≡ memberSet o b ++ drop (length (memberSet o b)) out
+          → (W.Total t ≡ written o b slots (length out)) × (l ≡ outputAfter o b slots out)
+      unfolding total outputAfter leaves
+      written-total h t l =
+          let fine : written o b slots (length out) ≡ W.Total (length (memberSet o b)) = by-room (earliest-passed room-row [] (le-ltb (length out) (length (memberSet o b)) h) ∙ earliest-none) in
+          (ap W.Total t ∙ sym fine, rw fine l)
+
+-- any table that is large enough is as good as another
+enough-slots : (o : Options) (b : Bytes) (slots room : ℕ) → tableSlots ≤ slots → written o b tableSlots room ≡ written o b slots room
+unfolding written ownRows
+enough-slots o b slots room h = rw (le-ltb slots tableSlots h)
+
+never-19 : (o : Options) (b : Bytes) (room : ℕ) → writtenNumber (written o b tableSlots room) ≡ 19 → ⊥
+never-19 o b room e = pick (asked o b) (split o b tableSlots room .few e)
+  where
+    pick : (r : Written) → TotalIs (λ n. tableSlots < tableSlots) r → ⊥
+    pick (W.Total n) h = absurd (omega (arith, h))
+    pick (W.Refused number place) h = h
+
+module _ {A : Type 0} (o : Options) (b : Bytes) {slots slots′ : List A} {out out′ : Bytes} {r : Written} where
+  pub writes-by : r ≡ written o b (length slots) (length out) → out′ ≡ outputAfter o b (length slots) out → (writtenNumber r ≡ 19 → slots′ ≡ slots) → Writes o b slots out r slots′ out′
+  writes-by e f g = record { answers = e; output = f; table = g }
+
+  pub enough-writes : tableSlots ≤ length slots → r ≡ written o b tableSlots (length out) → out′ ≡ outputAfter o b tableSlots out → Writes o b slots out r slots′ out′
+  unfolding outputAfter
+  enough-writes h e f =
+      let same = enough-slots o b (length slots) (length out) h in
+      writes-by (e ∙ same) (f ∙ ap (λ (w : Written). leaves w (memberSet o b) out) same) (λ n. absurd (never-19 o b (length out) (ap writtenNumber (sym e) ∙ n)))

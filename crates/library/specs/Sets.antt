@@ -5,13 +5,15 @@ use mathlib.Core.Bool.{Bool}
 use mathlib.Core.List.{List, map, _++_}
 use lib.ListN.{length}
 use Rattle.wire.specs.Bytes.{Bytes, le32, join}
-use Rattle.format.specs.Exports.{firstExports, nativeExports}
+use Rattle.format.specs.Machines.{arm64ec, firstMachine, nativeMachine}
+use Rattle.format.specs.Exports.{firstCount, nativeCount, firstExports, nativeExports}
 use Rattle.format.specs.Layouts.{Member, encode}
 use Rattle.format.specs.Library.{Options, setHeaderSize, entrySize, membersOf, firstMembers, nativeMembers, allMembers}
 use Rattle.format.specs.Refusals.{checkExports}
 use Rattle.format.specs.declared.Checked.the-variants as C
 use Rattle.coff.specs.Machines.{IsMachine}
 use Rattle.coff.specs.declared.machines.Machine.{Machine}
+use Rattle.keys.specs.Targets.{Resolved}
 use Rattle.walks.specs.Pen.{Drew, fixedOf}
 use Rattle.library.specs.declared.Accepted.{Accepted}
 use Rattle.library.specs.declared.Accepted.the-variants.{By, Refused}
@@ -20,6 +22,14 @@ use Rattle.library.specs.declared.Accepted.the-variants.{By, Refused}
 pub data AcceptedAs (o : Options) (b : Bytes) : Accepted → Type 0 where
   taken : {m : Machine} → checkExports o b ≡ C.Fine → m .number ≡ o .machine → IsMachine m → AcceptedAs o b (By m)
   refused : {number place : ℕ} → checkExports o b ≡ C.Refused number place → AcceptedAs o b (Refused number place)
+
+-- the aliases of both lists were resolved; on ARM64EC there are none
+pub record ResolvedBy (first native : ℕ) (mingw : Bool) (b : Bytes) (targets : List ℕ) : Type 0 where
+  pub firsts : (first ≡ arm64ec → ⊥) → Resolved first mingw b 0 (firstCount b) targets
+  pub natives : (native ≡ arm64ec → ⊥) → Resolved native mingw b (firstCount b) (nativeCount b) targets
+
+abbrev pub ResolvedAll : ℕ → Bool → Bytes → List ℕ → Type 0
+ResolvedAll machine mingw b targets = ResolvedBy (firstMachine machine) (nativeMachine machine) mingw b targets
 
 -- the three fixed members, the first list and the native list
 abbrev pub membersBy : ℕ → ℕ → Bool → Bool → Bytes → Bytes → List Member

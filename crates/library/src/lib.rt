@@ -1,4 +1,5 @@
 // The library: a port of write_import_library, members only. An export list is checked, its set measured and then written by one walk.
+pub mod aliases; // aliases.rt: the aliases of both lists, resolved
 pub mod set; // set.rt: the member set
 
 use crate::set::total_accepted;
@@ -8,10 +9,10 @@ use coff::machines::Found;
 use coff::machines::Machine;
 use format::Checked;
 use format::Written;
+use keys::Row;
 ghost use mathlib.Core.Path.{_≡_};
 ghost use mathlib.Core.Bool.{Bool};
-ghost use lib.ListN.{length};
-ghost use Rattle.format.specs.Answers.{asked, written, outputAfter};
+ghost use Rattle.format.specs.Answers.{asked, Writes};
 ghost use Rattle.library.specs.Sets.{AcceptedAs};
 
 // What both operations ask first: the machine of a list to which none of refusals 1 to 14 applies, or the refusal.
@@ -52,19 +53,20 @@ pub fn total(list: &[u8], machine: u32, mingw: bool, whole_archive_compat: bool)
 }
 
 // Writes the member set of any bytes: the total, or the refusal. A refusal leaves all of the output as it was, success what stands
-// beyond the total.
+// beyond the total. The slots are worked in; 19 leaves them as they were.
 pub fn write(
     list: &[u8],
     machine: u32,
     mingw: bool,
     whole_archive_compat: bool,
+    slots: &mut [Row],
     out: &mut [u8],
 ) -> Written
-    ensures { λ r. ⌜ (r ≡ written (record { machine = machine; mingw = mingw; compat = «whole_archive_compat» }) (now (list .entry)) (length (now (out .entry)))) × (now (out .exit) ≡ outputAfter (record { machine = machine; mingw = mingw; compat = «whole_archive_compat» }) (now (list .entry)) (now (out .entry))) ⌝ }
+    ensures { λ r. ⌜ Writes (record { machine = machine; mingw = mingw; compat = «whole_archive_compat» }) (now (list .entry)) (now (slots .entry)) (now (out .entry)) r (now (slots .exit)) (now (out .exit)) ⌝ }
 {
     match accept(list, machine, mingw) {
         Accepted::By(m) => {
-            return write_accepted(list, m, mingw, whole_archive_compat, out);
+            return write_accepted(list, m, mingw, whole_archive_compat, slots, out);
         }
         Accepted::Refused { number, place } => {
             return Written::Refused { number, place };

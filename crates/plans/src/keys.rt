@@ -36,7 +36,7 @@ fn key_named(b: &[u8], k: u32, machine: u16, mingw: bool, public: &[u8], wanted:
 }
 
 // Whether the import of a record has the wanted key; that of a private one has none.
-fn key_is(b: &[u8], k: u32, machine: u16, mingw: bool, wanted: &[u8]) -> bool
+pub fn key_is(b: &[u8], k: u32, machine: u16, mingw: bool, wanted: &[u8]) -> bool
     requires { ⌜ Held (now b) k ⌝ }
     requires { ⌜ (machine ≡ arm64ec → ⊥) ⌝ }
     ensures { λ r. ⌜ r ≡ keyAt machine mingw (now (b .entry)) (now (wanted .entry)) k ⌝ }

@@ -25,10 +25,7 @@ use Rattle.laws.proofs.Demand3.{answers-is, plain-public}
 use Rattle.coff.specs.Import.{typeNumber}
 use Rattle.names.specs.Built.{nameOf}
 use Rattle.names.specs.Rename.{Renamed}
-use Rattle.search.specs.Search.{placeOf}
 use Rattle.names.specs.declared.rename.Replaced.{Replaced}
-use Rattle.search.specs.declared.Place.the-variants as Place
-use Rattle.search.proofs.Searches.{place-at, place-nowhere}
 use Rattle.plans.specs.Shape.{sourceOf, shaped}
 use Rattle.plans.specs.Keys.{keyAt, lastIn}
 use Rattle.plans.specs.declared.Shape.{Shape}
@@ -36,6 +33,8 @@ use Rattle.plans.specs.declared.Shape.the-variants as H
 use Rattle.plans.proofs.Choices.{string-none, string-some}
 use Rattle.plans.proofs.Publics.{public-base, public-renamed}
 use Rattle.plans.proofs.Answering.{last-answering-in}
+use Rattle.keys.specs.Targets.{targetOf}
+use Rattle.keys.proofs.Targets.{target-none, target-some}
 use Rattle.walks.specs.Pen.{Room, Drew}
 use Rattle.walks.specs.Walk.{importOf, direct, drawn, membersAt, membersIn, recordMembers, passMembers}
 use Rattle.walks.proofs.Pens.{room-as, room-sized, room-first, room-next, drew-as, drew-sized, drew-more}
@@ -76,38 +75,44 @@ key-answers machine mingw b w i m h = pick (isPrivate (exportAt b i)) h
           final-is = ap final (p .is);
         }
 
-module _ (machine : ℕ) (mingw : Bool) (b dll p : Bytes) (k from n : ℕ) {s : Bytes} (w : s ≡ bytesAt b (fieldAt k 3)) where
-  abbrev scan : Option ℕ
-  scan = lastIn (keyAt machine mingw b s) from n
+-- by the target that was found for a record
+module _ (machine : ℕ) (mingw : Bool) (b dll p : Bytes) (k from n : ℕ) {t : ℕ} (is : t ≡ targetOf (lastIn (keyAt machine mingw b (bytesAt b (fieldAt k 3))) from n)) where
+  abbrev wanted : Bytes
+  wanted = bytesAt b (fieldAt k 3)
 
-  answering : (q : Option ℕ) → scan ≡ q → lastAnswering machine mingw (bytesAt b (fieldAt k 3)) (exportsFrom b from n) ≡ Option·map (exportAt b) q
-  answering q e = ap (λ (v : Bytes). lastAnswering machine mingw v (exportsFrom b from n)) (sym w) ∙ last-answering-in machine mingw b s from n ∙ ap (Option·map (exportAt b)) e
+  abbrev last : Option ℕ
+  last = lastIn (keyAt machine mingw b wanted) from n
+
+  answering : (q : Option ℕ) → last ≡ q → lastAnswering machine mingw wanted (exportsFrom b from n) ≡ Option·map (exportAt b) q
+  answering q e = last-answering-in machine mingw b wanted from n ∙ ap (Option·map (exportAt b)) e
 
   -- none answers: the record's own import
-  pub deferred-none : placeOf (lastIn (keyAt machine mingw b s) from n) ≡ Place.Nowhere → importOf machine (exportAt b k) 4 p dll (s ++ []) ∷ []
+  pub deferred-none : {s : Bytes} → s ≡ bytesAt b (fieldAt k 3) → from + n ≤ 8192 → t ≡ 65535 → importOf machine (exportAt b k) 4 p dll (s ++ []) ∷ []
       ≡ aliasOrShort machine mingw dll (exportAt b k) p (bytesAt b (fieldAt k 3)) (lastAnswering machine mingw (bytesAt b (fieldAt k 3)) (exportsFrom b from n))
   unfolding aliasOrShort
-  deferred-none e = rw (answering none (place-nowhere scan e), append-nil s, w)
+  deferred-none {s} w small e =
+      let below : (i : ℕ) → last ≡ some i → i < 8192 = λ i h. omega (arith, lastIn-at (keyAt machine mingw b wanted) from n i h .below) in
+      rw (answering none (target-none last below (sym is ∙ e)), append-nil s, w)
 
-  module _ (i : ℕ) (e : placeOf (lastIn (keyAt machine mingw b s) from n) ≡ Place.At i) where
-    there : At (keyAt machine mingw b s) from (from + n) i
-    there = lastIn-at (keyAt machine mingw b s) from n i (place-at scan i e)
+  module _ (e : t ≡ 65535 → ⊥) where
+    there : At (keyAt machine mingw b wanted) from (from + n) t
+    there = lastIn-at (keyAt machine mingw b wanted) from n t (target-some last is e)
 
-    pub answers-below : i < from + n
+    pub answers-below : t < from + n
     answers-below = there .below
 
     module _ (m : machine ≡ arm64ec → ⊥) where
-      the-one : Answers machine mingw b i
-      the-one = key-answers machine mingw b s i m (there .holds-there)
+      the-one : Answers machine mingw b t
+      the-one = key-answers machine mingw b wanted t m (there .holds-there)
 
-      pub answers-named : isSome (publicName (exportAt b i)) ≡ true
+      pub answers-named : isSome (publicName (exportAt b t)) ≡ true
       unfolding isSome
       answers-named = rw (the-one .named)
 
-      pub deferred-some : aliasMembers machine (kind (exportAt b k)) (Option·getD (publicName (exportAt b i)) []) p
+      pub deferred-some : aliasMembers machine (kind (exportAt b k)) (Option·getD (publicName (exportAt b t)) []) p
           ≡ aliasOrShort machine mingw dll (exportAt b k) p (bytesAt b (fieldAt k 3)) (lastAnswering machine mingw (bytesAt b (fieldAt k 3)) (exportsFrom b from n))
       unfolding aliasOrShort
-      deferred-some = rw (answering (some i) (place-at scan i e), the-one .named, the-one .final-is)
+      deferred-some = rw (answering (some t) (target-some last is e), the-one .named, the-one .final-is)
 
 -- the name of the record that an alias leads to: its base, or built
 module _ (b : Bytes) (k : ℕ) where
@@ -165,9 +170,9 @@ typed-now machine e p t x = pick (ecCode machine e) (mangled-now (free t) p t x)
     pick false h = refl
 
 -- nothing is deferred without an import_name
-unnamed-now : (machine : ℕ) (mingw : Bool) (e : Export) → e .importName ≡ none → isDeferred (plan machine mingw e) ≡ false
-unfolding plan planPublic choose chooseNamed
-unnamed-now machine mingw e n = pick (publicName e)
+unnamed-now : (machine : ℕ) (mingw : Bool) (e : Export) → e .importName ≡ none → (q : Option Bytes) → isDeferred (planPublic machine mingw e q) ≡ false
+unfolding planPublic choose chooseNamed
+unnamed-now machine mingw e n = pick
   where
     chosen : (p : Bytes) (t : Bool) (x i : Option Bytes) → i ≡ none → isDeferred (planChoice machine e p (if t then P.typed 0 [] else chooseNamed machine mingw e p x i)) ≡ false
     chosen p true x i h = typed-now machine e p 0 []
@@ -179,6 +184,21 @@ unnamed-now machine mingw e n = pick (publicName e)
     pick none = refl
     pick (some []) = refl
     pick (some (c ∷ cs)) = chosen (c ∷ cs) (noname e) (e .exportAs) (e .importName) n
+
+import-absent : (b : Bytes) (k : ℕ) → absentAt b (fieldAt k 3) ≡ true → exportAt b k .importName ≡ none
+unfolding exportAt
+import-absent b k a = string-none b (fieldAt k 3) a
+
+pub deferred-wanted : (machine : ℕ) (mingw : Bool) (b : Bytes) (k : ℕ) (p : Bytes) → shaped (exportAt b k) p H.Deferred ≡ planPublic machine mingw (exportAt b k) (some p)
+    → absentAt b (fieldAt k 3) ≡ false
+unfolding shaped
+deferred-wanted machine mingw b k p h = pick (absentAt b (fieldAt k 3)) refl
+  where
+    pick : (t : Bool) → absentAt b (fieldAt k 3) ≡ t → t ≡ false
+    pick false e = refl
+    pick true e =
+        let no : isDeferred (planPublic machine mingw (exportAt b k) (some p)) ≡ true = ap isDeferred (sym h) in
+        sym no ∙ unnamed-now machine mingw (exportAt b k) (import-absent b k e) (some p)
 
 chosen-now : (e : Export) (mingw : Bool) (p : Bytes) → isDeferred (planChoice arm64ec e p (choose arm64ec mingw e p)) ≡ false
 unfolding choose chooseNamed chooseImport
@@ -342,10 +362,6 @@ module _ (f : Export → List Member) (b : Bytes) (k : ℕ) where
   unfolding membersAt
   at-shown h = rw h
 
-import-absent : (b : Bytes) (k : ℕ) → absentAt b (fieldAt k 3) ≡ true → exportAt b k .importName ≡ none
-unfolding exportAt
-import-absent b k a = string-none b (fieldAt k 3) a
-
 none-later : (machine : ℕ) (mingw : Bool) (dll : Bytes) (es : List Export) (e : Export) (p : Plan) → isDeferred p ≡ false → [] ≡ deferredMember machine mingw dll es e p
 unfolding deferredMember
 none-later machine mingw dll es e (P.plain f t x) h = refl
@@ -355,8 +371,8 @@ none-later machine mingw dll es e (P.refused n) h = refl
 -- without an import_name there is nothing to write later
 pub record-unnamed : (later : Bool) (machine : ℕ) (mingw : Bool) (dll : Bytes) (es : List Export) (b : Bytes) (k : ℕ) → later ≡ true → absentAt b (fieldAt k 3) ≡ true
     → [] ≡ recordMembers later machine mingw dll es b k
-unfolding membersAt
-record-unnamed later machine mingw dll es b k l a = rw l (pick (isPrivate (exportAt b k)) (none-later machine mingw dll es (exportAt b k) (plan machine mingw (exportAt b k)) (unnamed-now machine mingw (exportAt b k) (import-absent b k a))))
+unfolding membersAt plan
+record-unnamed later machine mingw dll es b k l a = rw l (pick (isPrivate (exportAt b k)) (none-later machine mingw dll es (exportAt b k) (plan machine mingw (exportAt b k)) (unnamed-now machine mingw (exportAt b k) (import-absent b k a) (publicName (exportAt b k)))))
   where
     pick : (t : Bool) → [] ≡ deferredMember machine mingw dll es (exportAt b k) (plan machine mingw (exportAt b k))
         → [] ≡ (if t then [] else deferredMember machine mingw dll es (exportAt b k) (plan machine mingw (exportAt b k)))

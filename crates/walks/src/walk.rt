@@ -4,23 +4,22 @@ use crate::pen::draw_weak;
 use coff::constants::IMAGE_FILE_MACHINE_ARM64EC;
 use coff::import::ImportNameType;
 use coff::import::ImportType;
+use keys::NO_TARGET;
 use lists::record;
 use names::mangler;
 use names::rename;
 use plans::Shape;
 use plans::Source;
-use plans::keys;
 use plans::plan;
-use search::Place;
 ghost use mathlib.Core.Path.{_≡_};
-ghost use mathlib.Core.Bool.{true};
+ghost use mathlib.Core.Bool.{true, false};
 ghost use mathlib.Core.Option.{some, Option·getD};
 ghost use mathlib.Core.List.{[], _∷_, _++_};
 ghost use Prim.Native.Nat.{_-_, _≤_, _<_};
 ghost use lib.ListN.{length};
 ghost use Rattle.wire.specs.Bytes.{if_then_else_, isSome};
 ghost use Rattle.format.specs.Machines.{arm64ec};
-ghost use Rattle.format.specs.Exports.{bothCounts, fieldAt, bytesAt, exportAt, exportsFrom};
+ghost use Rattle.format.specs.Exports.{bothCounts, fieldAt, absentAt, bytesAt, exportAt, exportsFrom};
 ghost use Rattle.format.specs.Names.{hash, demangle};
 ghost use Rattle.format.specs.Plan.{kind, publicName, planPublic};
 ghost use Rattle.format.specs.Library.{aliasMembers, aliasOrShort, lastAnswering, membersOf};
@@ -29,6 +28,7 @@ ghost use Rattle.format.specs.declared.Checked.the-variants.{Fine};
 ghost use Rattle.coff.specs.Import.{kindNumber, typeNumber};
 ghost use Rattle.lists.specs.Held.{Held};
 ghost use Rattle.plans.specs.Shape.{sourceOf};
+ghost use Rattle.keys.specs.Targets.{Resolved};
 ghost use Rattle.walks.specs.Pen.{entryOf, atOf, Room, Drew};
 ghost use Rattle.walks.specs.Walk.{importOf, direct, drawn, recordMembers, passMembers};
 
@@ -278,6 +278,7 @@ fn draw_deferred(
     mingw: bool,
     from: u32,
     to: u32,
+    targets: &[u16],
 ) -> u64
     requires { ⌜ Room (entryOf pen) (atOf pen) (aliasOrShort machine mingw (now dll) (exportAt (now b) k) (now public) (bytesAt (now b) (fieldAt k 3)) (lastAnswering machine mingw (bytesAt (now b) (fieldAt k 3)) (exportsFrom (now b) from (to - from)))) ⌝ }
     requires { ⌜ Held (now b) k ⌝ }
@@ -285,11 +286,14 @@ fn draw_deferred(
     requires { ⌜ (machine ≡ arm64ec → ⊥) ⌝ }
     requires { ⌜ (from ≤ k) × (k < to) × (to ≤ bothCounts (now b)) ⌝ }
     requires { ⌜ (length (now dll) ≤ 255) × (length (now public) ≤ 8189) ⌝ }
+    requires { ⌜ Resolved machine mingw (now b) from (to - from) (now targets) ⌝ }
+    requires { ⌜ absentAt (now b) (fieldAt k 3) ≡ false ⌝ }
     ensures { λ r. ⌜ Drew (now (out .entry)) (entryOf pen) (atOf pen) (aliasOrShort machine mingw (now (dll .entry)) (exportAt (now (b .entry)) k) (now (public .entry)) (bytesAt (now (b .entry)) (fieldAt k 3)) (lastAnswering machine mingw (bytesAt (now (b .entry)) (fieldAt k 3)) (exportsFrom (now (b .entry)) from (to - from)))) (now (out .exit)) (entryOf r) (atOf r) ⌝ }
 {
     let wanted = record::string(b, k, record::IMPORT_NAME);
-    match keys::last_answering(b, machine, mingw, from, to, wanted) {
-        Place::Nowhere => draw_import(
+    let other = targets[k as usize];
+    if other == NO_TARGET {
+        return draw_import(
             out,
             pen,
             b,
@@ -300,9 +304,9 @@ fn draw_deferred(
             wanted,
             b"",
             machine,
-        ),
-        Place::At(i) => draw_alias_to(out, pen, b, k, i as u32, public, machine),
+        );
     }
+    draw_alias_to(out, pen, b, k, other as u32, public, machine)
 }
 
 // Whether the import of a record under its public name is written at once and without an export string, whatever its type: its size
@@ -336,12 +340,14 @@ fn draw_named(
     from: u32,
     to: u32,
     later: bool,
+    targets: &[u16],
 ) -> u64
     requires { ⌜ Room (entryOf pen) (atOf pen) (drawn later machine mingw (now dll) (exportsFrom (now b) from (to - from)) (exportAt (now b) k) (planPublic machine mingw (exportAt (now b) k) (some (now public)))) ⌝ }
     requires { ⌜ Held (now b) k ⌝ }
     requires { ⌜ checkList (now b) ≡ Fine ⌝ }
     requires { ⌜ (from ≤ k) × (k < to) × (to ≤ bothCounts (now b)) ⌝ }
     requires { ⌜ (length (now dll) ≤ 255) × (length (now public) ≤ 8189) ⌝ }
+    requires { ⌜ ((machine ≡ arm64ec → ⊥) → Resolved machine mingw (now b) from (to - from) (now targets)) ⌝ }
     ensures { λ r. ⌜ Drew (now (out .entry)) (entryOf pen) (atOf pen) (drawn later machine mingw (now (dll .entry)) (exportsFrom (now (b .entry)) from (to - from)) (exportAt (now (b .entry)) k) (planPublic machine mingw (exportAt (now (b .entry)) k) (some (now (public .entry))))) (now (out .exit)) (entryOf r) (atOf r) ⌝ }
 {
     if out.len() == 0 && is_direct(b, k, machine, public) {
@@ -387,7 +393,19 @@ fn draw_named(
             if !later {
                 return pen;
             }
-            draw_deferred(out, pen, b, k, dll, public, machine, mingw, from, to)
+            draw_deferred(
+                out,
+                pen,
+                b,
+                k,
+                dll,
+                public,
+                machine,
+                mingw,
+                from,
+                to,
+                targets,
+            )
         }
         Shape::Refused { number: _ } => pen,
     }
@@ -406,12 +424,14 @@ fn draw_record(
     from: u32,
     to: u32,
     later: bool,
+    targets: &[u16],
 ) -> u64
     requires { ⌜ Room (entryOf pen) (atOf pen) (recordMembers later machine mingw (now dll) (exportsFrom (now b) from (to - from)) (now b) k) ⌝ }
     requires { ⌜ Held (now b) k ⌝ }
     requires { ⌜ checkList (now b) ≡ Fine ⌝ }
     requires { ⌜ (from ≤ k) × (k < to) × (to ≤ bothCounts (now b)) ⌝ }
     requires { ⌜ length (now dll) ≤ 255 ⌝ }
+    requires { ⌜ ((machine ≡ arm64ec → ⊥) → Resolved machine mingw (now b) from (to - from) (now targets)) ⌝ }
     ensures { λ r. ⌜ Drew (now (out .entry)) (entryOf pen) (atOf pen) (recordMembers later machine mingw (now (dll .entry)) (exportsFrom (now (b .entry)) from (to - from)) (now (b .entry)) k) (now (out .exit)) (entryOf r) (atOf r) ⌝ }
 {
     if later && record::absent(b, k, record::IMPORT_NAME) {
@@ -433,6 +453,7 @@ fn draw_record(
             from,
             to,
             later,
+            targets,
         );
     }
     let r = rename::replace(
@@ -459,6 +480,7 @@ fn draw_record(
         from,
         to,
         later,
+        targets,
     )
 }
 
@@ -473,17 +495,31 @@ fn draw_pass(
     from: u32,
     to: u32,
     later: bool,
+    targets: &[u16],
 ) -> u64
     requires { ⌜ Room (entryOf pen) (atOf pen) (passMembers later machine mingw (now dll) (exportsFrom (now b) from (to - from)) (now b) from (to - from)) ⌝ }
     requires { ⌜ checkList (now b) ≡ Fine ⌝ }
     requires { ⌜ (from ≤ to) × (to ≤ bothCounts (now b)) ⌝ }
     requires { ⌜ length (now dll) ≤ 255 ⌝ }
+    requires { ⌜ ((machine ≡ arm64ec → ⊥) → Resolved machine mingw (now b) from (to - from) (now targets)) ⌝ }
     ensures { λ r. ⌜ Drew (now (out .entry)) (entryOf pen) (atOf pen) (passMembers later machine mingw (now (dll .entry)) (exportsFrom (now (b .entry)) from (to - from)) (now (b .entry)) from (to - from)) (now (out .exit)) (entryOf r) (atOf r) ⌝ }
 {
     let mut next = pen;
     let mut k = from;
     while k < to {
-        next = draw_record(out, next, b, k, dll, machine, mingw, from, to, later);
+        next = draw_record(
+            out,
+            next,
+            b,
+            k,
+            dll,
+            machine,
+            mingw,
+            from,
+            to,
+            later,
+            targets,
+        );
         k += 1;
     }
     next
@@ -499,13 +535,15 @@ pub fn draw_list(
     mingw: bool,
     from: u32,
     to: u32,
+    targets: &[u16],
 ) -> u64
     requires { ⌜ Room (entryOf pen) (atOf pen) (membersOf machine mingw (now dll) (exportsFrom (now b) from (to - from))) ⌝ }
     requires { ⌜ checkList (now b) ≡ Fine ⌝ }
     requires { ⌜ (from ≤ to) × (to ≤ bothCounts (now b)) ⌝ }
     requires { ⌜ length (now dll) ≤ 255 ⌝ }
+    requires { ⌜ ((machine ≡ arm64ec → ⊥) → Resolved machine mingw (now b) from (to - from) (now targets)) ⌝ }
     ensures { λ r. ⌜ Drew (now (out .entry)) (entryOf pen) (atOf pen) (membersOf machine mingw (now (dll .entry)) (exportsFrom (now (b .entry)) from (to - from))) (now (out .exit)) (entryOf r) (atOf r) ⌝ }
 {
-    let next = draw_pass(out, pen, b, dll, machine, mingw, from, to, false);
-    draw_pass(out, next, b, dll, machine, mingw, from, to, true)
+    let next = draw_pass(out, pen, b, dll, machine, mingw, from, to, false, targets);
+    draw_pass(out, next, b, dll, machine, mingw, from, to, true, targets)
 }

@@ -2,7 +2,7 @@
 use Prim.Native.Nat.{ℕ, _-_}
 use mathlib.Core.Path.{_≡_, sym, ap, _∙_}
 use mathlib.Core.Bool.{true, false}
-use mathlib.Core.List.{_++_}
+use mathlib.Core.List.{List, _++_}
 use lib.ListN.{length, take, drop, take-append-drop}
 use lib.Seq.{take-append-seam}
 use native.Mathlib.Omega.{arith}
@@ -11,8 +11,8 @@ use Rattle.wire.specs.Bytes.{Bytes, same}
 use Rattle.wire.proofs.Bytes.{same-eq}
 use Rattle.search.proofs.Searches.{take-rest}
 use Rattle.format.specs.Library.{Options, memberSet}
-use Rattle.format.specs.Refusals.{earliest, roomRows, checkExports}
-use Rattle.format.specs.Answers.{total, asked, unless, written, leaves, outputAfter}
+use Rattle.format.specs.Refusals.{earliest, tableSlots, ownRows, checkExports}
+use Rattle.format.specs.Answers.{total, asked, unless, written, leaves, outputAfter, Writes}
 use Rattle.format.specs.declared.Checked.{Checked}
 use Rattle.format.specs.declared.Checked.the-variants as C
 use Rattle.format.specs.declared.Checked.the-variants.{Fine}
@@ -52,12 +52,19 @@ output-refused k set before out e h = rw (h, ne-eqb 0 (k .number) (λ z. e (sym 
 
 -- ---- what the writer said and left, and what the Rust did
 
-module _ {o : Options} {list set before out after : Bytes} {k : Kept} {w v : Written} (said : w ≡ written o list (length out)) (told : w ≡ v) (left : after ≡ outputAfter o list out) (guard : before ≡ out) where
+module _ {o : Options} {list set before out after : Bytes} {slots slots′ : List (List ℕ)} {k : Kept} {w v : Written} (wrote : Writes o list slots out w slots′ after)
+    (many : length slots ≡ tableSlots) (told : w ≡ v) (guard : before ≡ out) (asks : (k .number ≡ 15 → ⊥) → asked o list ≡ answer k) where
+  said : written o list tableSlots (length out) ≡ v
+  said = ap (λ (n : ℕ). written o list n (length out)) (sym many) ∙ sym (wrote .answers) ∙ told
+
+  left : outputAfter o list tableSlots out ≡ after
+  left = ap (λ (n : ℕ). outputAfter o list n out) (sym many) ∙ sym (wrote .output)
+
   pub agrees-written : (v ≡ answer k) × (k .value ≡ length set) × (after ≡ output k set before) → Agrees o list k set out
-  agrees-written (e, n, h) = record { answers = sym said ∙ told ∙ e; total = λ z. n; leaves = sym left ∙ h ∙ ap (output k set) guard }
+  agrees-written (e, n, h) = record { answers = said ∙ e; total = λ z. n; leaves = left ∙ h ∙ ap (output k set) guard; asks = asks }
 
   pub agrees-refused : (v ≡ answer k) × (k .number ≡ 0 → ⊥) × ((s : Bytes) → after ≡ output k s before) → Agrees o list k set out
-  agrees-refused (e, n, h) = record { answers = sym said ∙ told ∙ e; total = λ z. absurd (n z); leaves = sym left ∙ h set ∙ ap (output k set) guard }
+  agrees-refused (e, n, h) = record { answers = said ∙ e; total = λ z. absurd (n z); leaves = left ∙ h set ∙ ap (output k set) guard; asks = asks }
 
 -- ---- what an agreement says of the definitions: the members are the Rust's
 
@@ -72,4 +79,4 @@ set-of own (C.Refused number place) members set out e h g = cc
 
 pub agrees-set : (o : Options) (list : Bytes) (k : Kept) (set out : Bytes) → Agrees o list k set out → k .number ≡ 0 → memberSet o list ≡ set
 unfolding written asked outputAfter answer output
-agrees-set o list k set out a z = set-of (earliest (roomRows o list (length out))) (checkExports o list) (memberSet o list) set out (a .answers ∙ rw z) (a .total z) (a .leaves ∙ rw z)
+agrees-set o list k set out a z = set-of (earliest (ownRows o list tableSlots (length out))) (checkExports o list) (memberSet o list) set out (a .answers ∙ rw z) (a .total z) (a .leaves ∙ rw z)

@@ -5,7 +5,8 @@ use lib.Dec.{eqb}
 use lib.ListN.{length, drop}
 use Rattle.wire.specs.Bytes.{Bytes, if_then_else_}
 use Rattle.format.specs.Library.{Options}
-use Rattle.format.specs.Answers.{written, outputAfter}
+use Rattle.format.specs.Refusals.{tableSlots}
+use Rattle.format.specs.Answers.{asked, written, outputAfter}
 use Rattle.format.specs.declared.Written.{Written}
 use Rattle.format.specs.declared.Written.the-variants.{Total, Refused}
 use Rattle.write_run.specs.declared.replay.Asked.{Asked}
@@ -23,8 +24,9 @@ answer k = if eqb 0 (k .number) then Total (k .value) else Refused (k .number) (
 unfoldable pub output : Kept → Bytes → Bytes → Bytes
 output k set out = if eqb 0 (k .number) then set ++ drop (length set) out else out
 
--- the writer does with a list and an output what the Rust did
+-- the writer does with a list, a table and an output what the Rust did; and so does asking, but where the set was too large for the output
 pub record Agrees (o : Options) (list : Bytes) (k : Kept) (set out : Bytes) : Type 0 where
-  pub answers : written o list (length out) ≡ answer k
+  pub answers : written o list tableSlots (length out) ≡ answer k
   pub total : k .number ≡ 0 → k .value ≡ length set
-  pub leaves : outputAfter o list out ≡ output k set out
+  pub leaves : outputAfter o list tableSlots out ≡ output k set out
+  pub asks : (k .number ≡ 15 → ⊥) → asked o list ≡ answer k

@@ -4,9 +4,13 @@ ghost use mathlib.Core.Bool.{true};
 ghost use mathlib.Core.List.{_++_};
 ghost use lib.ListN.{length, drop};
 ghost use Rattle.wire.specs.Bytes.{Bytes};
+ghost use Rattle.format.specs.Answers as Answers;
 ghost use Rattle.format.specs.declared.Written.the-variants.{Total, Refused};
 ghost use Rattle.write_run.specs.Kept.{options, answer, output, Agrees};
 use format::Written;
+
+// What the slots hold before the writer works in them: any number will do.
+const STRANGE: u32 = 7;
 
 // What the writer is asked beside the list.
 pub struct Asked {
@@ -70,7 +74,33 @@ fn is_refused(number: u32, place: u32, kept: Kept, before: &[u8], out: &[u8]) ->
     wire::same(out, before)
 }
 
-// Whether the writer answers as the Rust did, and leaves the Rust's set in the output with all beyond it untouched.
+// Whether asking answers as the Rust did; of a set that was too large for the output it says nothing.
+fn is_asked(list: &[u8], asked: Asked, kept: Kept) -> bool
+    ensures { λ r. ⌜ (r ≡ true → (kept .number ≡ 15 → ⊥) → Answers.asked (options asked) (now (list .entry)) ≡ answer kept) ⌝ }
+{
+    match library::total(list, asked.machine, asked.mingw, asked.compat) {
+        Written::Total(n) => {
+            if kept.number == 15 {
+                return true;
+            }
+            if kept.number != 0 {
+                return false;
+            }
+            n == kept.value as usize
+        }
+        Written::Refused { number, place } => {
+            if kept.number == 0 {
+                return false;
+            }
+            if number != kept.number {
+                return false;
+            }
+            place == kept.value
+        }
+    }
+}
+
+// Whether asking and writing answer as the Rust did, and the writer leaves the Rust's set in the output with all beyond it untouched.
 pub fn agrees(
     list: &[u8],
     asked: Asked,
@@ -82,7 +112,18 @@ pub fn agrees(
     requires { ⌜ now before ≡ now out ⌝ }
     ensures { λ r. ⌜ (r ≡ true → Agrees (options asked) (now (list .entry)) kept (now (set .entry)) (now (out .entry))) ⌝ }
 {
-    match library::write(list, asked.machine, asked.mingw, asked.compat, out) {
+    if !is_asked(list, asked, kept) {
+        return false;
+    }
+    let mut slots = [[STRANGE; 3]; keys::SLOTS];
+    match library::write(
+        list,
+        asked.machine,
+        asked.mingw,
+        asked.compat,
+        &mut slots,
+        out,
+    ) {
         Written::Total(n) => is_written(n, kept, set, before, out),
         Written::Refused { number, place } => is_refused(number, place, kept, before, out),
     }

@@ -1,12 +1,10 @@
 -- `crepedum::crepedum_write` meets its contract.
-use mathlib.Core.Path.{ap, _∙_}
-use Rattle.crepedum.specs.Words.{writtenWord}
 use borrow.Author.Needs.{needs}
 use Rattle.crepedum.proofs.crepedum_write.Statement.{statement}
 use Rattle.crepedum.proofs.crepedum_write.Tie as tie
 
 returns : tie.Need-returns
-returns c = (c .written-word .ensures ∙ ap writtenWord (c .before .before .before .write .ensures .0), c .before .before .before .write .ensures .1)
+returns c = record { answer = _; word = c .written-word .ensures; writes = c .before .before .before .before .write .ensures }
 
 pub crepedum-write-spec : {M : Type 1} → statement M
 crepedum-write-spec = tie.close

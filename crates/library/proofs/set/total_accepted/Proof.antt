@@ -1,17 +1,20 @@
 -- `library::set::total_accepted` meets its contract.
-use mathlib.Core.Path.{_∙_}
-use Rattle.wire.proofs.Parts.{octets}
-use Rattle.library.proofs.MemberSets.{measured-total}
+use mathlib.Core.Path.{sym, _∙_}
+use Rattle.laws.proofs.Accepted.{list-accepted}
+use Rattle.library.proofs.Resolving.{nothing-wanted}
 use borrow.Author.Needs.{needs}
 use Rattle.library.proofs.set.total_accepted.Statement.{statement}
 use Rattle.library.proofs.set.total_accepted.Tie as tie
 
-returns : tie.Need-returns
-returns c =
-    let c₂ = c .before .before in
-    let c₄ = c₂ .before .before in
-    c .total-of .ensures ∙ measured-total _ _ (octets _ (c₄ .shared-slice-known .given)) (c₄ .before .pre .0) (c₂ .measure .ensures .1)
+has-wanted-requires : tie.Need-has-wanted-requires
+has-wanted-requires c κs = list-accepted _ _ (c .before .pre .0)
+
+total-resolved-requires : tie.Need-total-resolved-requires
+total-resolved-requires c κs =
+    let p = c .before .before .before .before .pre in
+    (p .0, (p .1, nothing-wanted _ _ _ _ (sym (c .before .if1 .left) ∙ c .before .before .has-wanted .ensures)))
 
 pub total-accepted-spec : {M : Type 1} → statement M
-total-accepted-spec = tie.close
-    (tie.spec (λ c. search needs) (λ c κs. search needs) (λ c κs. search needs) returns)
+total-accepted-spec =
+    tie.close
+    (tie.spec has-wanted-requires (λ c κs. search needs) (λ c. search needs) (λ c. search needs) total-resolved-requires (λ c. search needs))

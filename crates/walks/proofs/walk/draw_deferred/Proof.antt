@@ -1,59 +1,98 @@
 -- `walks::walk::draw_deferred` meets its contract.
-use mathlib.Core.Path.{sym, ap, _∙_}
-use Rattle.walks.proofs.Pens.{room-as, drew-as}
+use Prim.Native.Nat.{ℕ, _+_, _-_, _≤_, _<_}
+use mathlib.Core.Path.{_≡_, sym, ap, _∙_}
+use mathlib.Core.Bool.{Bool, false}
+use mathlib.Core.List.{List}
 use native.Mathlib.Omega.{arith}
-use lib.ListN.{length}
+use lib.ListN.{length, getD}
+use Rattle.wire.specs.Bytes.{Bytes}
+use Rattle.format.specs.Exports.{fieldAt, absentAt, bytesAt, bothCounts}
+use Rattle.format.specs.Refusals.{checkList}
+use Rattle.format.specs.declared.Checked.the-variants.{Fine}
+use Rattle.format.proofs.Listed.{listed}
 use Rattle.lists.proofs.Records.{held}
+use Rattle.plans.specs.Keys.{keyAt, lastIn}
 use Rattle.plans.proofs.Publics.{string-length}
+use Rattle.keys.specs.Targets.{targetOf, Resolved}
+use Rattle.walks.proofs.Pens.{room-as, drew-as}
 use Rattle.walks.proofs.Records.{deferred-none, answers-below, answers-named, deferred-some}
 use borrow.Author.Needs.{needs}
 use Rattle.walks.proofs.walk.draw_deferred.Statement.{statement}
 use Rattle.walks.proofs.walk.draw_deferred.Tie as tie
 
+-- the target that was found for a record of the list
+target : {machine : ℕ} {mingw : Bool} {b : Bytes} {from to k : ℕ} {targets : List ℕ} → Resolved machine mingw b from (to - from) targets → (from ≤ k) × (k < to) × (to ≤ bothCounts b)
+    → absentAt b (fieldAt k 3) ≡ false → getD targets k 0 ≡ targetOf (lastIn (keyAt machine mingw b (bytesAt b (fieldAt k 3))) from (to - from))
+target r (l, h, u) a = r .each _ l (omega arith) a
+
+-- a list has 8,192 records at most
+few : (b : Bytes) {from to k : ℕ} → checkList b ≡ Fine → (from ≤ k) × (k < to) × (to ≤ bothCounts b) → from + (to - from) ≤ 8192
+few b e (l, h, u) = let s = listed b e in omega (arith, s .shape .firsts, s .shape .natives)
+
+below : (b : Bytes) {from to k t : ℕ} → t < from + (to - from) → (from ≤ k) × (k < to) × (to ≤ bothCounts b) → t < bothCounts b
+below b i (l, h, u) = omega arith
+
+shared-slice-read-other : tie.Need-shared-slice-read-other
+shared-slice-read-other c =
+    let p = c .before .before .before .before .before .before .before .pre in
+    let (resolved, absent) = p .1 .1 .1 .1 .1 .1 in
+    let (l, h, u) = p .1 .1 .1 .1 .0 in
+    resolved .held _ l (omega arith) absent
+
 draw-import-requires : tie.Need-draw-import-requires
 draw-import-requires c κs =
-    let c₄ = c .before .before .before .before in
-    let c₅ = c₄ .before in
-    let c₁₀ = c₅ .before .before .before .before .before in
-    (room-as (sym (deferred-none _ _ _ (c₁₀ .args .dll .now) (c₁₀ .args .public .now) _ _ _ (c₅ .string .ensures) (sym (c₄ .last-answering .ensures) ∙ c .before .before .enum-told .given .1))) (c₁₀ .pre .0), (c₁₀ .pre .1 .0, ((omega (arith, c₁₀ .pre .1 .1 .1 .1 .1 .1), omega (arith, c₁₀ .pre .1 .1 .1 .1 .1 .0)), (omega (arith, ap length (c₅ .string .ensures), string-length _ _ 3 (c₁₀ .pre .1 .0) (omega arith), c₁₀ .pre .1 .0 .few 3 (omega arith)), omega arith))))
-
-cast-draw-alias-to : tie.Need-cast-draw-alias-to
-cast-draw-alias-to c =
-    let c₄ = c .before .before .before .before in
-    let c₅ = c₄ .before in
-    let c₁₀ = c₅ .before .before .before .before .before in
-    omega
-    (arith, answers-below _ _ _ (c₁₀ .args .dll .now) (c₁₀ .args .public .now) _ _ _ (c₅ .string .ensures) _ (sym (c₄ .last-answering .ensures) ∙ c .before .before .i .given .1), c₁₀ .pre .1 .1 .1 .1 .0 .0, c₁₀ .pre .1 .1 .1 .1 .0 .1, c₁₀ .pre .1 .1 .1 .1 .0 .2)
-
-draw-alias-to-requires : tie.Need-draw-alias-to-requires
-draw-alias-to-requires c κs =
-    let c₄ = c .before .before .before .before in
-    let c₅ = c₄ .before in
-    let c₁₀ = c₅ .before .before .before .before .before in
-    (room-as (sym (deferred-some _ _ _ (c₁₀ .args .dll .now) (c₁₀ .args .public .now) _ _ _ (c₅ .string .ensures) _ (sym (c₄ .last-answering .ensures) ∙ c .before .before .i .given .1) (c₁₀ .pre .1 .1 .1 .0))) (c₁₀ .pre .0), ((c₁₀ .pre .1 .0, held _ _ (c₁₀ .pre .1 .1 .0) (omega (arith, answers-below _ _ _ (c₁₀ .args .dll .now) (c₁₀ .args .public .now) _ _ _ (c₅ .string .ensures) _ (sym (c₄ .last-answering .ensures) ∙ c .before .before .i .given .1), c₁₀ .pre .1 .1 .1 .1 .0 .0, c₁₀ .pre .1 .1 .1 .1 .0 .1, c₁₀ .pre .1 .1 .1 .1 .0 .2))), (answers-named _ _ _ (c₁₀ .args .dll .now) (c₁₀ .args .public .now) _ _ _ (c₅ .string .ensures) _ (sym (c₄ .last-answering .ensures) ∙ c .before .before .i .given .1) (c₁₀ .pre .1 .1 .1 .0), c₁₀ .pre .1 .1 .1 .1 .1 .1)))
+    let string = c .before .before .before .before in
+    let start = string .before .before .before .before .before .before in
+    let p = start .pre in
+    let range = p .1 .1 .1 .1 .0 in
+    let lengths = p .1 .1 .1 .1 .1 .0 in
+    let (resolved, absent) = p .1 .1 .1 .1 .1 .1 in
+    let none = deferred-none _ _ _ (start .args .dll .now) (start .args .public .now) _ _ _ (target resolved range absent) (string .string .ensures) (few _ (p .1 .1 .0) range) (c .before .before .if1 .taken) in
+    let short = string-length _ _ 3 (p .1 .0) (omega arith) in
+    (room-as (sym none) (p .0), (p .1 .0, ((omega (arith, lengths .1), omega (arith, lengths .0)), (omega (arith, ap length (string .string .ensures), short, p .1 .0 .few 3 (omega arith)), omega arith))))
 
 returns : tie.Need-returns
 returns c =
-    let c₅ = c .before .before .before .before .before in
-    let c₇ = c₅ .before .before in
-    let c₈ = c₇ .before in
-    let c₁₃ = c₈ .before .before .before .before .before in
+    let if1 = c .before .before .before .before .before in
+    let string = if1 .before .before in
+    let start = string .before .before .before .before .before .before in
+    let p = start .pre in
+    let range = p .1 .1 .1 .1 .0 in
+    let (resolved, absent) = p .1 .1 .1 .1 .1 .1 in
     drew-as
-    (deferred-none _ _ _ (c₁₃ .args .dll .now) (c₁₃ .args .public .now) _ _ _ (c₈ .string .ensures) (sym (c₇ .last-answering .ensures) ∙ c₅ .enum-told .given .1))
+    (deferred-none _ _ _ (start .args .dll .now) (start .args .public .now) _ _ _ (target resolved range absent) (string .string .ensures) (few _ (p .1 .1 .0) range) (if1 .if1 .taken))
     (c .before .before .draw-import .ensures)
+
+cast-draw-alias-to : tie.Need-cast-draw-alias-to
+cast-draw-alias-to c =
+    let start = c .before .before .before .before .before .before .before .before .before in
+    omega (arith, c .before .before .shared-slice-known5 .given (start .args .k))
+
+draw-alias-to-requires : tie.Need-draw-alias-to-requires
+draw-alias-to-requires c κs =
+    let start = c .before .before .before .before .before .before .before .before .before in
+    let p = start .pre in
+    let native = p .1 .1 .1 .0 in
+    let range = p .1 .1 .1 .1 .0 in
+    let (resolved, absent) = p .1 .1 .1 .1 .1 .1 in
+    let is = target resolved range absent in
+    let other = c .before .if1 .left in
+    let dll = start .args .dll .now in
+    let public = start .args .public .now in
+    (room-as (sym (deferred-some _ _ _ dll public _ _ _ is other native)) (p .0), ((p .1 .0, held _ _ (p .1 .1 .0) (below _ (answers-below _ _ _ dll public _ _ _ is other) range)), (answers-named _ _ _ dll public _ _ _ is other native, p .1 .1 .1 .1 .1 .0 .1)))
 
 returns-2 : tie.Need-returns-2
 returns-2 c =
-    let c₅ = c .before .before .before .before .before in
-    let c₇ = c₅ .before .before in
-    let c₈ = c₇ .before in
-    let c₁₃ = c₈ .before .before .before .before .before in
+    let if1 = c .before .before .before .before in
+    let start = if1 .before .before .before .before .before .before .before .before in
+    let p = start .pre in
+    let (resolved, absent) = p .1 .1 .1 .1 .1 .1 in
     drew-as
-    (deferred-some _ _ _ (c₁₃ .args .dll .now) (c₁₃ .args .public .now) _ _ _ (c₈ .string .ensures) _ (sym (c₇ .last-answering .ensures) ∙ c₅ .i .given .1) (c₁₃ .pre .1 .1 .1 .0))
+    (deferred-some _ _ _ (start .args .dll .now) (start .args .public .now) _ _ _ (target resolved (p .1 .1 .1 .1 .0) absent) (if1 .if1 .left) (p .1 .1 .1 .0))
     (c .before .before .draw-alias-to .ensures)
 
 pub draw-deferred-spec : {M : Type 1} → statement M
 draw-deferred-spec =
     tie.close
-    (tie.spec (λ c κs. search needs) (λ c κs. search needs) (λ c. search needs) (λ c. search needs) draw-import-requires
-    (λ c. search needs) cast-draw-alias-to draw-alias-to-requires (λ c. search needs) returns (λ c. search needs) returns-2)
+    (tie.spec (λ c κs. search needs) (λ c. search needs) shared-slice-read-other (λ c. search needs) draw-import-requires
+    (λ c. search needs) returns cast-draw-alias-to draw-alias-to-requires (λ c. search needs) returns-2)

@@ -12,19 +12,19 @@ use Rattle.walks.proofs.walk.draw_pass.Statement.{statement}
 use Rattle.walks.proofs.walk.draw_pass.Tie as tie
 
 abbrev Inv-loop : tie.InvT-loop
-Inv-loop out₀ pen b dll machine mingw from to later next₀ k₀ out next k =
+Inv-loop out₀ pen b dll machine mingw from to later targets next₀ k₀ out next k =
     (from ≤ k) × (k ≤ to)
     × Drew out₀ (entryOf pen) (atOf pen) (passMembers later machine mingw dll (exportsFrom b from (to - from)) b from (k - from)) out (entryOf next) (atOf next)
 
 abbrev μ-loop : tie.MeasureT-loop
-μ-loop out₀ pen b dll machine mingw from to later next₀ k₀ out next k = to - k
+μ-loop out₀ pen b dll machine mingw from to later targets next₀ k₀ out next k = to - k
 
 loop-holds : tie.Need-loop-holds Inv-loop μ-loop
-loop-holds c = (omega arith, c .before .before .before .pre .1 .1 .0 .0, drew-as (in-none _ _ _) (drew-none _ _ _))
+loop-holds c = (omega arith, c .before .before .before .before .pre .1 .1 .0 .0, drew-as (in-none _ _ _) (drew-none _ _ _))
 
 draw-record-requires : tie.Need-draw-record-requires Inv-loop μ-loop
 draw-record-requires c κs =
-    let c₆ = c .before .before .before .before .before .before in
+    let c₆ = c .before .before .before .before .before .before .before in
     (pass-room _ _ (c₆ .pre .0) (c .before .before .loop .inv .0) (c .before .loop-test .taken) (c .before .before .loop .inv .2), (held _ _ (c₆ .pre .1 .0) (omega (arith, c .before .loop-test .taken, c₆ .pre .1 .1 .0 .1)), (c₆ .pre .1 .0, ((c .before .before .loop .inv .0, c .before .loop-test .taken, c₆ .pre .1 .1 .0 .1), c₆ .pre .1 .1 .1))))
 
 loop-less : tie.Need-loop-less Inv-loop μ-loop
@@ -34,7 +34,7 @@ loop-again : tie.Need-loop-again Inv-loop μ-loop
 loop-again c =
     let c₄ = c .before .before .before .before in
     let c₅ = c₄ .before in
-    let c₉ = c₅ .before .before .before .before in
+    let c₉ = c₅ .before .before .before .before .before in
     (omega (arith, c₅ .loop .inv .0), omega (arith, c₄ .loop-test .taken), pass-drew _ _ (c₉ .pre .0) (c₅ .loop .inv .0) (c₄ .loop-test .taken) (c₅ .loop .inv .2) (c .before .before .draw-record .ensures))
 
 same-length : tie.Need-same-length Inv-loop μ-loop
