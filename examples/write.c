@@ -35,6 +35,7 @@ static void show(const char *what, const uint8_t *bytes, size_t length) {
 }
 
 int main(void) {
+    static crepedum_slot slots[CREPEDUM_SLOTS];
     uint8_t list[HEADER + RECORD + sizeof names];
     size_t length = make_list(list);
     uint64_t total = crepedum_total(list, length, MACHINE_AMD64, false, false);
@@ -42,9 +43,11 @@ int main(void) {
     printf("total %u\n", (unsigned)total);
     uint8_t *out = malloc(total);
     if (!out) return 1;
-    uint64_t refusal = crepedum_write(list, length, MACHINE_AMD64, false, false, out, total - 1);
+    uint64_t refusal = crepedum_write(list, length, MACHINE_AMD64, false, false, slots, CREPEDUM_SLOTS, out, total - 1);
     printf("one byte less: refusal %u, place %u\n", (unsigned)(refusal >> 32), (unsigned)refusal);
-    if (crepedum_write(list, length, MACHINE_AMD64, false, false, out, total) != total) return 1;
+    refusal = crepedum_write(list, length, MACHINE_AMD64, false, false, slots, CREPEDUM_SLOTS - 1, out, total);
+    printf("one slot less: refusal %u, place %u\n", (unsigned)(refusal >> 32), (unsigned)refusal);
+    if (crepedum_write(list, length, MACHINE_AMD64, false, false, slots, CREPEDUM_SLOTS, out, total) != total) return 1;
     show("header", out, SET_HEADER);
     show("import", out + total - 37, 37);
     free(out);

@@ -9,13 +9,20 @@
 uint64_t crepedum_check(const uint8_t *list, size_t list_len, uint32_t machine, bool mingw);
 
 /* Asks how large the member set of an export list is, so that room can be reserved: the total (below 2^32), or the number of a refusal
-   from 1 to 14 times 2^32, plus its place. Nothing is written. */
+   from 1 to 14 times 2^32, plus its place. Nothing is written; it takes some 112 KiB of stack. */
 uint64_t crepedum_total(const uint8_t *list, size_t list_len, uint32_t machine, bool mingw, bool whole_archive_compat);
 
+/* A slot of the table that crepedum_write works in; what it holds does not matter. */
+typedef struct { uint32_t state, hash, record; } crepedum_slot;
+
+/* How many slots are enough for every list; more are as good. */
+#define CREPEDUM_SLOTS 8192
+
 /* Writes the member set of an export list into out, of out_len bytes, whether or not anybody asked for its total. Returns what
-   crepedum_total returns, but 15 times 2^32 where that is a total larger than out_len. On a refusal all of out is as before; on success
-   what stands beyond the total is. list and out must not overlap. */
-uint64_t crepedum_write(const uint8_t *list, size_t list_len, uint32_t machine, bool mingw, bool whole_archive_compat, uint8_t *out, size_t out_len);
+   crepedum_total returns, but where that is a total: 19 times 2^32 if slots_len is below CREPEDUM_SLOTS, else 15 times 2^32 if the
+   total is larger than out_len. On a refusal all of out is as before; on success what stands beyond the total is. On 19 the slots
+   are as before, too; after any other answer they may hold anything. list, slots and out must not overlap. */
+uint64_t crepedum_write(const uint8_t *list, size_t list_len, uint32_t machine, bool mingw, bool whole_archive_compat, crepedum_slot *slots, size_t slots_len, uint8_t *out, size_t out_len);
 
 /* Reads a member: 1 import descriptor, 2 null import descriptor, 3 null thunk, 4 short import, 5 weak external. The first 11
    fields are then its machine, ordinal, type, kind and compat, and the start and length of each of its names within the member,

@@ -9,6 +9,7 @@ mod member;
 pub mod raw;
 mod refusal;
 mod set;
+mod slots;
 
 pub use list::{Export, ExportList};
 pub use machine::{Machine, NoMachine};
@@ -58,7 +59,8 @@ pub fn write_into(list: &[u8], options: Options, out: &mut [u8]) -> Result<usize
         mingw,
         whole_archive_compat,
     } = options;
-    let answer = raw::write(list, machine.0, mingw, whole_archive_compat, out);
+    let answer =
+        slots::lend(|slots| raw::write(list, machine.0, mingw, whole_archive_compat, slots, out));
     Refusal::of(answer).map_or(Ok(answer as usize), Err)
 }
 

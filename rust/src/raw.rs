@@ -1,6 +1,20 @@
 //! The C functions over slices, with their answers as they are: the one place that declares them.
 
+/// A slot of the table that `write` works in; what it holds does not matter.
+#[repr(C)]
+#[derive(Clone, Copy, Debug, Default, PartialEq, Eq)]
+pub struct Slot {
+    pub state: u32,
+    pub hash: u32,
+    pub record: u32,
+}
+
+/// How many slots are enough for `write`; more are as good.
+pub const SLOTS: usize = 8192;
+
 mod c {
+    use super::Slot;
+
     unsafe extern "C" {
         pub fn crepedum_check(list: *const u8, list_len: usize, machine: u32, mingw: bool) -> u64;
 
@@ -18,6 +32,8 @@ mod c {
             machine: u32,
             mingw: bool,
             whole_archive_compat: bool,
+            slots: *mut Slot,
+            slots_len: usize,
             out: *mut u8,
             out_len: usize,
         ) -> u64;
@@ -63,16 +79,19 @@ pub fn total(list: &[u8], machine: u32, mingw: bool, whole_archive_compat: bool)
     }
 }
 
-/// The total of the set, which then stands in `out`, or the refusal's number times 2^32, plus its place.
+/// The total of the set, which then stands in `out`, or the refusal's number times 2^32, plus its place: 19 where there are fewer
+/// than `SLOTS` slots, which are then as they were.
 #[inline]
 pub fn write(
     list: &[u8],
     machine: u32,
     mingw: bool,
     whole_archive_compat: bool,
+    slots: &mut [Slot],
     out: &mut [u8],
 ) -> u64 {
-    // SAFETY: both pairs are those of slices, the second of one that nobody else holds.
+    // SAFETY: all pairs are those of slices, the last two of ones that nobody else holds; a slot is laid out as C has it, and any
+    // three numbers are one.
     unsafe {
         c::crepedum_write(
             list.as_ptr(),
@@ -80,6 +99,8 @@ pub fn write(
             machine,
             mingw,
             whole_archive_compat,
+            slots.as_mut_ptr(),
+            slots.len(),
             out.as_mut_ptr(),
             out.len(),
         )

@@ -12,19 +12,39 @@ pub enum Refusal {
     ListTooShort,
     Count,
     Shape,
-    StringOutside { place: u32 },
-    StringEmpty { place: u32 },
-    StringTooLong { place: u32 },
-    StringNul { place: u32 },
-    UnknownFlag { record: u32 },
+    StringOutside {
+        place: u32,
+    },
+    StringEmpty {
+        place: u32,
+    },
+    StringTooLong {
+        place: u32,
+    },
+    StringNul {
+        place: u32,
+    },
+    UnknownFlag {
+        record: u32,
+    },
     DllName,
-    Renaming { record: u32 },
-    PublicNameEmpty { record: u32 },
-    Arm64ecUnmangled { record: u32 },
-    Arm64ecDemangling { record: u32 },
+    Renaming {
+        record: u32,
+    },
+    PublicNameEmpty {
+        record: u32,
+    },
+    Arm64ecUnmangled {
+        record: u32,
+    },
+    Arm64ecDemangling {
+        record: u32,
+    },
     Room,
     NotAMember,
     NotASet,
+    /// Only of `raw::write`: the wrapper always lends enough.
+    Slots,
 }
 
 impl Refusal {
@@ -32,7 +52,7 @@ impl Refusal {
     ///
     /// # Panics
     ///
-    /// On a number above 17, which the library does not give.
+    /// On 18 and on a number above 19, which the library does not give.
     pub fn of(answer: u64) -> Option<Self> {
         let place = answer as u32;
         Some(match answer >> 32 {
@@ -54,6 +74,7 @@ impl Refusal {
             15 => Self::Room,
             16 => Self::NotAMember,
             17 => Self::NotASet,
+            19 => Self::Slots,
             number => panic!("no refusal has the number {number}"),
         })
     }
@@ -78,6 +99,7 @@ impl Refusal {
             Self::Room => 15,
             Self::NotAMember => 16,
             Self::NotASet => 17,
+            Self::Slots => 19,
         }
     }
 
@@ -121,6 +143,7 @@ impl Refusal {
             Self::Room => "the total is larger than the output",
             Self::NotAMember => "not one of the five layouts of members",
             Self::NotASet => "not a member set",
+            Self::Slots => "the table has fewer than 8,192 slots",
         }
     }
 

@@ -1,5 +1,10 @@
 //! The wrapper: lists built, sets written, members read back, symbols looked up, and each refusal.
 
+use std::cell::RefCell;
+use std::sync::mpsc::{Sender, channel};
+use std::thread;
+
+use crepedum::raw::{self, SLOTS, Slot};
 use crepedum::{
     Export, ExportList, Kind, Led, Machine, Member, MemberSet, NameType, Options, Refusal, check,
     lookup, read, total, write, write_into,
@@ -121,6 +126,88 @@ fn the_room_asked_for_is_exactly_enough() {
     }
 }
 
+/// The answer with so many slots, each holding the same numbers before, and the slots after.
+fn written_in(slots: usize, held: Slot, out: &mut [u8]) -> (u64, Vec<Slot>) {
+    let mut table = vec![held; slots];
+    let answer = raw::write(
+        &att().encode(),
+        Machine::AMD64.0,
+        false,
+        false,
+        &mut table,
+        out,
+    );
+    (answer, table)
+}
+
+#[test]
+fn what_the_slots_hold_does_not_matter() {
+    let set = write(&att().encode(), AMD64).expect("the list is good");
+    for number in [0, 1, 2, u32::MAX] {
+        let held = Slot {
+            state: number,
+            hash: number,
+            record: number,
+        };
+        for slots in [SLOTS, SLOTS + 1] {
+            let mut out = vec![7; set.len()];
+            let (answer, _) = written_in(slots, held, &mut out);
+            assert_eq!(answer, set.len() as u64);
+            assert_eq!(out, set);
+        }
+    }
+}
+
+#[test]
+fn with_too_few_slots_nothing_is_changed() {
+    let held = Slot {
+        state: 1,
+        hash: 2,
+        record: 3,
+    };
+    for slots in [0, 1, SLOTS - 1] {
+        for room in [0, 1 << 12] {
+            let mut out = vec![7; room];
+            let (answer, table) = written_in(slots, held, &mut out);
+            assert_eq!(Refusal::of(answer), Some(Refusal::Slots));
+            assert_eq!(table, vec![held; slots]);
+            assert_eq!(out, vec![7; room]);
+        }
+    }
+}
+
+/// Writes when its thread ends.
+struct AtTheEnd(Sender<Vec<u8>>);
+
+impl Drop for AtTheEnd {
+    fn drop(&mut self) {
+        let set = write(&att().encode(), AMD64).expect("the list is good");
+        self.0.send(set).expect("somebody waits");
+    }
+}
+
+thread_local! {
+    static LAST: RefCell<Option<AtTheEnd>> = const { RefCell::new(None) };
+}
+
+#[test]
+fn a_thread_writes_until_its_very_end() {
+    let set = write(&att().encode(), AMD64).expect("the list is good");
+    // Whichever of the two the thread has first, one of them finds the table given back.
+    for writes_first in [false, true] {
+        let (sender, sets) = channel();
+        let running = thread::spawn(move || {
+            if writes_first {
+                write(&att().encode(), AMD64).expect("the list is good");
+            }
+            LAST.set(Some(AtTheEnd(sender)));
+            write(&att().encode(), AMD64).expect("the list is good")
+        });
+        assert_eq!(running.join().expect("it does not panic"), set);
+        assert_eq!(sets.recv(), Ok(set.clone()));
+    }
+}
+
 #[test]
 fn machines_have_names() {
     for (name, machine) in Machine::TABLE {
@@ -218,6 +305,12 @@ fn every_refusal_has_its_number_place_and_words() {
             17,
             0,
             "not a member set",
+        ),
+        (
+            Refusal::of(written_in(0, Slot::default(), &mut []).0).expect("there is no slot"),
+            19,
+            0,
+            "fewer than 8,192 slots",
         ),
     ];
     for (refusal, number, place, words) in cases {
