@@ -1,8 +1,8 @@
 //! What the records of a list ask for, and where each symbol of its exports is to lead.
 
-use oracle::Record;
 use oracle::ask::{ARM64EC, I386};
 use oracle::list::{CONSTANT, DATA, NONAME, PRIVATE};
+use oracle::{Options, Record};
 
 use crate::judge::same;
 use crate::member_set::{IMP, short_symbols};
@@ -31,11 +31,23 @@ pub struct Maker {
     pub mingw: bool,
 }
 
+impl Maker {
+    /// Those of the first and of the native list.
+    pub fn both(options: Options) -> [Self; 2] {
+        let native = options.for_native().machine;
+        let first = if options.is_hybrid() { ARM64EC } else { native };
+        let mingw = options.mingw;
+        [first, native].map(|machine| Self { machine, mingw })
+    }
+}
+
 /// An export that is not private.
-struct Export<'a> {
-    maker: Maker,
-    record: &'a Record,
-    public: Vec<u8>,
+pub struct Export<'a> {
+    pub maker: Maker,
+    pub record: &'a Record,
+    pub public: Vec<u8>,
+    /// The final name: the symbol of its short import.
+    pub symbol: Vec<u8>,
     /// None for one that waits for the keys of its list.
     name_type: Option<u16>,
 }
@@ -48,6 +60,7 @@ impl<'a> Export<'a> {
             Some(ext_name) => replace(base, name, ext_name).expect("a written list is renamed"),
             None => base.to_vec(),
         };
+        let is_hybrid = is_hybrid_code(maker, record);
         let gives = |name_type, wanted: &[u8]| apply_name_type(name_type, &public) == wanted;
         let name_type = match (&record.export_as, &record.import_name) {
             _ if record.has(NONAME) => Some(IMPORT_ORDINAL),
@@ -58,34 +71,37 @@ impl<'a> Export<'a> {
                 ARM64EC => Some(IMPORT_NAME_EXPORTAS),
                 _ => (public == *wanted).then_some(IMPORT_NAME),
             },
+            (None, None) if is_hybrid => Some(IMPORT_NAME_EXPORTAS),
             (None, None) => Some(get_name_type(base, name, maker.machine, maker.mingw)),
+        };
+        let symbol = if is_hybrid && !matches!(public[0], b'?' | b'#') {
+            [b"#", &public[..]].concat()
+        } else {
+            public.clone()
         };
         Self {
             maker,
             record,
             public,
+            symbol,
             name_type,
         }
     }
 
-    fn kind(&self) -> u16 {
-        match (self.record.has(CONSTANT), self.record.has(DATA)) {
-            (true, _) => IMPORT_CONST,
-            (false, true) => IMPORT_DATA,
-            _ => IMPORT_CODE,
-        }
+    pub fn kind(&self) -> u16 {
+        kind(self.record)
     }
 
-    fn is_hybrid_code(&self) -> bool {
-        self.maker.machine == ARM64EC && self.kind() == IMPORT_CODE
+    /// What it waits for, if it is deferred.
+    pub fn wanted(&self) -> Option<&[u8]> {
+        let wanted = self.record.import_name.as_deref();
+        wanted.filter(|_| self.name_type.is_none())
     }
 
-    /// The symbol of its short import.
-    fn symbol(&self) -> Vec<u8> {
-        if self.is_hybrid_code() && !matches!(self.public[0], b'?' | b'#') {
-            return [b"#", &self.public[..]].concat();
-        }
-        self.public.clone()
+    /// Its type applied to its final name; a deferred one has none.
+    pub fn key(&self) -> Option<&[u8]> {
+        self.name_type
+            .map(|name_type| apply_name_type(name_type, &self.symbol))
     }
 
     fn asks(&self) -> Where {
@@ -96,21 +112,15 @@ impl<'a> Export<'a> {
         if let Some(name) = record.export_as.as_ref().or(record.import_name.as_ref()) {
             return Where::Name(name.clone());
         }
-        if self.is_hybrid_code() {
-            return Where::Name(demangled(&self.symbol()).expect("a written list is demangled"));
+        if is_hybrid_code(self.maker, record) {
+            return Where::Name(demangled(&self.symbol).expect("a written list is demangled"));
         }
         let name_type = self.name_type.expect("only an import_name waits");
         Where::Name(apply_name_type(name_type, &self.public).to_vec())
     }
 
-    /// Whether it is a plain import that answers to a wanted name.
-    fn answers_to(&self, wanted: &[u8]) -> bool {
-        let gives = |name_type| apply_name_type(name_type, &self.symbol()) == wanted;
-        self.name_type.is_some_and(gives)
-    }
-
     fn short_leadings(&self) -> Vec<Leading> {
-        let symbols = short_symbols(self.maker.machine, self.kind(), &self.symbol());
+        let symbols = short_symbols(self.maker.machine, self.kind(), &self.symbol);
         let lead = |symbol| (symbol, self.asks());
         symbols.into_iter().map(lead).collect()
     }
@@ -129,6 +139,29 @@ impl<'a> Export<'a> {
     }
 }
 
+fn kind(record: &Record) -> u16 {
+    match (record.has(CONSTANT), record.has(DATA)) {
+        (true, _) => IMPORT_CONST,
+        (false, true) => IMPORT_DATA,
+        _ => IMPORT_CODE,
+    }
+}
+
+fn is_hybrid_code(maker: Maker, record: &Record) -> bool {
+    maker.machine == ARM64EC && kind(record) == IMPORT_CODE
+}
+
+/// The exports of a list that are not private.
+pub fn exports(maker: Maker, records: &[Record]) -> Vec<Export<'_>> {
+    let exports = records.iter().filter(|record| !record.has(PRIVATE));
+    exports.map(|record| Export::of(maker, record)).collect()
+}
+
+/// The last import of a list with a key, by a scan from its end.
+pub fn last_with<'e, 'a>(exports: &'e [Export<'a>], wanted: &[u8]) -> Option<&'e Export<'a>> {
+    exports.iter().rfind(|export| export.key() == Some(wanted))
+}
+
 /// What a written list asks for.
 pub struct Asked {
     pub leadings: Vec<Leading>,
@@ -138,14 +171,10 @@ pub struct Asked {
 
 impl Asked {
     pub fn of(maker: Maker, records: &[Record]) -> Self {
-        let exports = records.iter().filter(|record| !record.has(PRIVATE));
-        let exports: Vec<Export<'_>> = exports.map(|record| Export::of(maker, record)).collect();
+        let exports = exports(maker, records);
         let leadings = |export: &Export<'_>| {
-            let wanted = export.record.import_name.as_deref();
-            let waits = export.name_type.is_none();
-            let wanted = wanted.filter(|_| waits);
-            let answers = |wanted| exports.iter().rfind(|other| other.answers_to(wanted));
-            match wanted.and_then(answers) {
+            let answering = |wanted| last_with(&exports, wanted);
+            match export.wanted().and_then(answering) {
                 Some(import) => export.alias_leadings(import),
                 None => export.short_leadings(),
             }

@@ -3,17 +3,23 @@
 use std::hint::black_box;
 use std::time::Instant;
 
+use crepedum::raw::Slot;
 use oracle::ask::{AMD64, Options};
-use oracle::list::{Record, encode_list};
+use oracle::list::{HEADER_SIZE, RECORD_SIZE, Record, encode_list};
 
 use crate::content::FIELDS;
 use crate::judge::Difference;
 use crate::looks::Question;
+use crate::slots::one_hash;
+use crate::tables::SLOTS;
 use crate::{finder, library, looks, plain, reader, reads};
 
 const RUNS: usize = 21;
 /// Exports, and how many of them are aliases.
-const SIZES: [(usize, usize); 5] = [(512, 0), (1024, 0), (2048, 0), (4096, 0), (4096, 1000)];
+type Size = (usize, usize);
+const SIZES: [Size; 5] = [(512, 0), (1024, 0), (2048, 0), (4096, 0), (4096, 1000)];
+const FULL: usize = 4096;
+const LONGEST: usize = 4095;
 const ROOM: usize = 1 << 20;
 const OPTIONS: Options = Options {
     machine: AMD64,
@@ -26,8 +32,13 @@ fn name(k: usize) -> String {
     format!("att_display_horizon_step_number_{k:08}")
 }
 
+/// Another one.
+fn new_name(k: usize) -> String {
+    format!("att_display_horizon_turn_number_{k:08}")
+}
+
 /// Exports with names of 40 bytes. The last ones are aliases, whose targets are spread over the others.
-fn measured_list(exports: usize, aliases: usize) -> Vec<u8> {
+fn measured_list((exports, aliases): Size) -> Vec<u8> {
     let plain = exports - aliases;
     let target = |k: usize| name((k - plain) * plain / aliases);
     let record = |k: usize| {
@@ -37,8 +48,91 @@ fn measured_list(exports: usize, aliases: usize) -> Vec<u8> {
             Record::new(&name(k)).import_name(&target(k))
         }
     };
-    let records: Vec<Record> = (0..exports).map(record).collect();
+    listed((0..exports).map(record))
+}
+
+fn listed(records: impl Iterator<Item = Record>) -> Vec<u8> {
+    let records: Vec<Record> = records.collect();
     encode_list(b"att.dll", &records, &[])
+}
+
+/// Names that are renamed within a decorated one.
+fn renamed_list() -> Vec<u8> {
+    let record = |k: usize| {
+        let record = Record::new(&name(k)).symbol_name(&format!("_{}@16", name(k)));
+        record.ext_name(&new_name(k))
+    };
+    listed((0..FULL).map(record))
+}
+
+/// Names that are renamed at the end of 1,000 bytes, which hold their first byte now and then.
+fn renamed_late_list() -> Vec<u8> {
+    let before = "horizon_display_".repeat(60);
+    let record = |k: usize| {
+        let record = Record::new(&name(k)).symbol_name(&format!("{before}{}", name(k)));
+        record.ext_name(&new_name(k))
+    };
+    listed((0..FULL).map(record))
+}
+
+/// Keys with one hash, and one alias of the last of them.
+fn one_hash_list() -> Vec<u8> {
+    let name = |k| one_hash(k, 12);
+    let alias = Record::new("att_go").import_name(&name(FULL - 2));
+    let imports = (0..FULL - 1).map(|k| Record::new(&name(k)));
+    listed(imports.chain([alias]))
+}
+
+/// Imports and as many aliases of them, all renamed, and each of their strings another one of the longest: parts of one text.
+fn longest_list() -> Vec<u8> {
+    let half = FULL / 2;
+    let text: Vec<u8> = (0..FULL + LONGEST).map(letter).collect();
+    let dll = (0, 7);
+    let string = |start: usize| (start, LONGEST);
+    let absent = (0, 0);
+    let import = |k: usize| [string(k), string(half + k), absent, absent, absent];
+    let alias = |k: usize| {
+        [
+            string(half + k),
+            string(k),
+            absent,
+            string(FULL - 1 - k),
+            absent,
+        ]
+    };
+    let records = (0..half).map(import).chain((0..half).map(alias));
+    let mut list: Vec<u8> = [
+        FULL,
+        0,
+        HEADER_SIZE,
+        HEADER_SIZE + FULL * RECORD_SIZE,
+        text.len(),
+        dll.0,
+        dll.1,
+    ]
+    .into_iter()
+    .flat_map(number)
+    .collect();
+    for record in records {
+        list.extend(
+            record
+                .into_iter()
+                .flat_map(|(start, length)| [start, length])
+                .flat_map(number),
+        );
+        list.extend(number(0));
+    }
+    list.extend(text);
+    list
+}
+
+fn number(number: usize) -> [u8; 4] {
+    (number as u32).to_le_bytes()
+}
+
+/// Letters without a pattern.
+fn letter(k: usize) -> u8 {
+    b'a' + ((k as u32).wrapping_mul(2_654_435_761) >> 16) as u8 % 26
 }
 
 fn timed(run: impl FnOnce() -> bool) -> u128 {
@@ -57,15 +151,19 @@ fn median(mut times: Vec<u128>) -> u128 {
 /// The median times in nanoseconds of the library and of the plain program.
 type Times = [u128; 2];
 
-/// The library's writer and the plain one. The runs take turns, so that a busy machine is busy for both.
-fn measure_writes(list: &[u8]) -> Times {
-    let mut out = vec![0; ROOM];
+/// The library's writer and the plain one, each in memory that was cleared. The runs take turns, so that a busy machine is busy
+/// for both.
+fn measure_writes(list: &[u8], room: usize) -> Times {
+    let mut out = vec![0; room];
+    let mut slots = vec![Slot::default(); SLOTS];
     let mut times = [const { Vec::new() }; 2];
     for _ in 0..RUNS {
         out.fill(0);
+        slots.fill(Slot::default());
         times[0].push(timed(|| {
-            library::write(black_box(list), OPTIONS, &mut out).is_ok()
+            library::write(black_box(list), OPTIONS, &mut slots, &mut out).is_ok()
         }));
+        black_box(&mut slots);
         black_box(&mut out).fill(0);
         times[1].push(timed(|| {
             plain::write(black_box(list), OPTIONS, &mut out).is_ok()
@@ -75,23 +173,40 @@ fn measure_writes(list: &[u8]) -> Times {
     times.map(median)
 }
 
-/// Both write the same set.
-fn same_set(list: &[u8]) -> Result<(), Difference> {
-    let (mut ours, mut plainly) = (vec![0; ROOM], vec![0; ROOM]);
+/// The total asked for.
+fn measure_totals(list: &[u8]) -> Times {
+    let mut times = [const { Vec::new() }; 2];
+    for _ in 0..RUNS {
+        times[0].push(timed(|| {
+            black_box(library::total(black_box(list), OPTIONS)).is_ok()
+        }));
+        times[1].push(timed(|| {
+            black_box(plain::total(black_box(list), OPTIONS)).is_ok()
+        }));
+    }
+    times.map(median)
+}
+
+/// Both write the same set, and answer the same total; the room that it takes.
+fn same_set(list: &[u8]) -> Result<usize, Difference> {
+    let totals = [library::total(list, OPTIONS), plain::total(list, OPTIONS)];
+    let room = ROOM.max(totals[1].unwrap_or_default());
+    let (mut ours, mut plainly) = (vec![0; room], vec![0; room]);
+    let mut slots = vec![Slot::default(); SLOTS];
     let answers = [
-        library::write(list, OPTIONS, &mut ours),
+        library::write(list, OPTIONS, &mut slots, &mut ours),
         plain::write(list, OPTIONS, &mut plainly),
     ];
-    if answers[0].is_ok() && answers[0] == answers[1] && ours == plainly {
-        Ok(())
+    if answers[0].is_ok() && answers[0] == answers[1] && answers == totals && ours == plainly {
+        Ok(room)
     } else {
         Err(Difference("the measured sets are not the same".into()))
     }
 }
 
-fn measured_set(exports: usize, aliases: usize) -> Vec<u8> {
+fn measured_set(size: Size) -> Vec<u8> {
     let mut set = vec![0; ROOM];
-    let total = plain::write(&measured_list(exports, aliases), OPTIONS, &mut set);
+    let total = plain::write(&measured_list(size), OPTIONS, &mut set);
     set.truncate(total.expect("the measured list is taken"));
     set
 }
@@ -134,42 +249,61 @@ fn measure_lookup(set: &[u8], symbol: &[u8]) -> Times {
     times.map(median)
 }
 
-fn row(what: &str, (exports, aliases): (usize, usize), [ours, plain]: Times) {
+fn row(what: &str, (exports, aliases): Size, [ours, plain]: Times) {
     let ratio = ours as f64 / plain as f64;
     println!("{what:<21} {exports:>8} {aliases:>8} {ours:>12} {plain:>12} {ratio:>7.2}");
 }
 
-fn bench_writes((exports, aliases): (usize, usize)) -> Result<(), Difference> {
-    let list = measured_list(exports, aliases);
-    same_set(&list)?;
-    row("write", (exports, aliases), measure_writes(&list));
+fn bench_write(what: &str, size: Size, list: &[u8]) -> Result<(), Difference> {
+    let room = same_set(list)?;
+    row(what, size, measure_writes(list, room));
     Ok(())
 }
 
-fn bench_reads((exports, aliases): (usize, usize)) -> Result<(), Difference> {
-    let set = measured_set(exports, aliases);
-    let members = reads::members(&set)?;
-    for member in &members {
-        reads::judge(member)?;
+fn bench_writes() -> Result<(), Difference> {
+    for size in SIZES {
+        bench_write("write", size, &measured_list(size))?;
     }
-    row(
-        "read each member",
-        (exports, aliases),
-        measure_reads(&members),
-    );
+    bench_write("write, renamed", (FULL, 0), &renamed_list())?;
+    bench_write("write, renamed late", (FULL, 0), &renamed_late_list())?;
+    bench_write("write, 4,095 bytes", (FULL, FULL / 2), &longest_list())?;
+    bench_write("write, one hash", (FULL, 1), &one_hash_list())
+}
+
+fn bench_totals() -> Result<(), Difference> {
+    for size in SIZES {
+        let list = measured_list(size);
+        same_set(&list)?;
+        row("ask for the total", size, measure_totals(&list));
+    }
+    Ok(())
+}
+
+fn bench_reads() -> Result<(), Difference> {
+    for size in SIZES {
+        let set = measured_set(size);
+        let members = reads::members(&set)?;
+        for member in &members {
+            reads::judge(member)?;
+        }
+        row("read each member", size, measure_reads(&members));
+    }
     Ok(())
 }
 
 /// The symbol of the last export, and one that is not there.
-fn bench_lookups((exports, aliases): (usize, usize)) -> Result<(), Difference> {
-    let set = measured_set(exports, aliases);
-    for (what, k) in [
-        ("look up the last", exports - 1),
-        ("look up a stranger", exports),
-    ] {
-        let symbol = name(k).into_bytes();
-        Question::of(&set).judge(1, &symbol)?;
-        row(what, (exports, aliases), measure_lookup(&set, &symbol));
+fn bench_lookups() -> Result<(), Difference> {
+    for size in SIZES {
+        let set = measured_set(size);
+        let (exports, _) = size;
+        for (what, k) in [
+            ("look up the last", exports - 1),
+            ("look up a stranger", exports),
+        ] {
+            let symbol = name(k).into_bytes();
+            Question::of(&set).judge(1, &symbol)?;
+            row(what, size, measure_lookup(&set, &symbol));
+        }
     }
     Ok(())
 }
@@ -180,8 +314,11 @@ pub fn bench() -> Result<String, Difference> {
         "{:<21} {:>8} {:>8} {:>12} {:>12} {:>7}",
         "", "exports", "aliases", "ours, ns", "plain, ns", "ratio"
     );
-    for operation in [bench_writes, bench_reads, bench_lookups] {
-        SIZES.into_iter().try_for_each(operation)?;
-    }
-    Ok(format!("names of 40 bytes, median of {RUNS}, AMD64"))
+    bench_writes()?;
+    bench_totals()?;
+    bench_reads()?;
+    bench_lookups()?;
+    Ok(format!(
+        "names of 40 bytes where nothing else is said, median of {RUNS}, AMD64"
+    ))
 }

@@ -127,7 +127,8 @@ fn every_damage(question: &Question) -> Vec<Question> {
     replaced.chain(cut).chain([longer]).chain(turned).collect()
 }
 
-fn with_number(list: &[u8], at: usize, value: u32) -> Vec<u8> {
+/// A list with another number at a place.
+pub fn with_number(list: &[u8], at: usize, value: u32) -> Vec<u8> {
     let mut list = list.to_vec();
     list[at..at + 4].copy_from_slice(&value.to_le_bytes());
     list

@@ -13,6 +13,7 @@ use crate::judge::{Difference, Question, same};
 use crate::layouts::members;
 use crate::library;
 use crate::order::Refusal;
+use crate::tables::{SLOTS, Table};
 
 /// What the Rust says, as far as a row asks.
 #[derive(Clone, Copy, Debug, PartialEq)]
@@ -203,7 +204,8 @@ fn symbol_not_utf8() -> Result<(), Difference> {
 fn written(case: &Case) -> Result<Vec<u8>, Difference> {
     let mut set = vec![0; 1 << 12];
     let Question { list, options } = Question::of(case);
-    let total = library::write(&list, options, &mut set)
+    let mut table = Table::drawn(SLOTS, 0);
+    let total = library::write(&list, options, table.lend(), &mut set)
         .map_err(|refusal| Difference(format!("{case:?} is refused {refusal:?}")))?;
     set.truncate(total);
     Ok(set)

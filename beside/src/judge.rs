@@ -8,6 +8,7 @@ use oracle::set::lay_out;
 use oracle::{Answer, Case, Options, Packing};
 
 use crate::order::{self, Refusal};
+use crate::tables::{SLOTS, Table};
 use crate::{library, plain};
 
 /// Bytes on both sides of a lent room.
@@ -19,14 +20,21 @@ const SHOWN: usize = 1 << 14;
 /// Larger than the set of any generated list.
 const LARGEST: usize = 1 << 20;
 
-/// A member set, or a refusal where the room does not matter.
-pub type Wanted = Result<Vec<u8>, Refusal>;
-type Writer = fn(&[u8], Options, &mut [u8]) -> Result<usize, Refusal>;
+const FEW_SLOTS: Refusal = (19, 0);
+const SMALL_ROOM: Refusal = (15, 0);
 
-const WRITERS: [(&str, Writer); 2] = [
-    ("crepedum_write", library::write),
-    ("the plain program", plain::write),
-];
+/// A member set, or a refusal where neither slots nor room matter.
+pub type Wanted = Result<Vec<u8>, Refusal>;
+
+/// What is wanted in a table and a room.
+fn given(wanted: &Wanted, slots: usize, room: usize) -> Result<&[u8], Refusal> {
+    match wanted {
+        Err(refusal) => Err(*refusal),
+        Ok(_) if slots < SLOTS => Err(FEW_SLOTS),
+        Ok(set) if set.len() > room => Err(SMALL_ROOM),
+        Ok(set) => Ok(set),
+    }
+}
 
 /// A list with what is given beside it.
 pub struct Question {
@@ -102,23 +110,24 @@ impl Question {
         ))
     }
 
-    /// Compares the check, the total asked for and, in several rooms, each writer.
+    /// Compares the check, the total asked for, each writer in several rooms, and the library's with a slot too few.
     pub fn judge(&self, wanted: &Wanted) -> Result<(), Difference> {
-        self.judge_check(wanted)?;
-        self.judge_total(wanted)?;
-        match wanted {
-            Ok(set) => {
-                for room in [set.len() + GUARD, set.len(), set.len() - 1, 0] {
-                    self.judge_write(room, wanted)?;
-                }
-            }
-            Err(_) => {
-                for room in [AMPLE, 0] {
-                    self.judge_write(room, wanted)?;
-                }
-            }
+        self.judge_asked(wanted)?;
+        let rooms = match wanted {
+            Ok(set) => &[set.len() + GUARD, set.len(), set.len() - 1, 0][..],
+            Err(_) => &[AMPLE, 0],
+        };
+        for room in rooms {
+            self.judge_write(*room, wanted)?;
         }
-        Ok(())
+        let mut few = Table::drawn(SLOTS - 1, self.list.len() as u64);
+        self.judge_write_in(&mut few, rooms[0], wanted)
+    }
+
+    /// Compares the check and the total asked for.
+    pub fn judge_asked(&self, wanted: &Wanted) -> Result<(), Difference> {
+        self.judge_check(wanted)?;
+        self.judge_total(wanted)
     }
 
     fn judge_check(&self, wanted: &Wanted) -> Result<(), Difference> {
@@ -132,52 +141,82 @@ impl Question {
 
     fn judge_total(&self, wanted: &Wanted) -> Result<(), Difference> {
         let wanted = wanted.as_ref().map(Vec::len).map_err(|refusal| *refusal);
-        let got = library::total(&self.list, self.options);
-        if got == wanted {
-            return Ok(());
-        }
-        Err(self.differs(&format!("crepedum_total: wanted {wanted:?}, got {got:?}")))
-    }
-
-    /// Compares each writer in one room: its answer, the set, and that every other byte stays as it was.
-    pub fn judge_write(&self, room: usize, wanted: &Wanted) -> Result<(), Difference> {
-        for (name, writer) in WRITERS {
-            if let Some(what) = self.write_differs(writer, room, wanted) {
-                return Err(self.differs(&format!("{name}, room {room}: {what}")));
+        for (name, got) in [
+            ("crepedum_total", library::total(&self.list, self.options)),
+            ("the plain total", plain::total(&self.list, self.options)),
+        ] {
+            if got != wanted {
+                return Err(self.differs(&format!("{name}: wanted {wanted:?}, got {got:?}")));
             }
         }
         Ok(())
     }
 
-    fn write_differs(&self, writer: Writer, room: usize, wanted: &Wanted) -> Option<String> {
-        let set: Result<&[u8], Refusal> = match wanted {
-            Ok(set) if set.len() > room => Err((15, 0)),
-            Ok(set) => Ok(set),
-            Err(refusal) => Err(*refusal),
+    /// Compares each writer in one room, the library's in a table with anything in it.
+    pub fn judge_write(&self, room: usize, wanted: &Wanted) -> Result<(), Difference> {
+        let mut table = Table::drawn(SLOTS, (self.list.len() + room) as u64);
+        self.judge_write_in(&mut table, room, wanted)?;
+        let write = |out: &mut [u8]| plain::write(&self.list, self.options, out);
+        let Err(what) = written(write, room, given(wanted, SLOTS, room)) else {
+            return Ok(());
         };
-        let before = pattern(room + 2 * GUARD);
-        let mut bytes = before.clone();
-        let answer = writer(&self.list, self.options, &mut bytes[GUARD..GUARD + room]);
-        if answer != set.map(<[u8]>::len) {
-            return Some(format!("wanted {:?}, got {answer:?}", set.map(<[u8]>::len)));
-        }
-        let mut after = before;
-        let set = set.unwrap_or_default();
-        after[GUARD..GUARD + set.len()].copy_from_slice(set);
-        if bytes == after {
-            return None;
-        }
-        let at = bytes
-            .iter()
-            .zip(&after)
-            .position(|(got, wanted)| got != wanted)?;
-        Some(format!(
-            "{answer:?}, but byte {} is {:02x} and not {:02x}",
-            at as i64 - GUARD as i64,
-            bytes[at],
-            after[at]
-        ))
+        Err(self.differs(&format!("the plain program, room {room}: {what}")))
     }
+
+    /// Compares the library's writer in one table and one room. On 19 every slot stays as it was, and always those not lent.
+    pub fn judge_write_in(
+        &self,
+        table: &mut Table,
+        room: usize,
+        wanted: &Wanted,
+    ) -> Result<(), Difference> {
+        let slots = table.len();
+        let given = given(wanted, slots, room);
+        let write = |out: &mut [u8]| library::write(&self.list, self.options, table.lend(), out);
+        let told = |what| {
+            let lent = format!("{slots} slots, room {room}");
+            self.differs(&format!("crepedum_write, {lent}: {what}"))
+        };
+        written(write, room, given).map_err(told)?;
+        let changed = match given {
+            Err(FEW_SLOTS) => table.changed(),
+            _ => table.changed_around(),
+        };
+        match changed {
+            Some(at) => Err(told(format!("slot {at} is not as it was"))),
+            None => Ok(()),
+        }
+    }
+}
+
+/// Compares a writer in one room: its answer, the set, and that every other byte stays as it was.
+fn written(
+    write: impl FnOnce(&mut [u8]) -> Result<usize, Refusal>,
+    room: usize,
+    given: Result<&[u8], Refusal>,
+) -> Result<(), String> {
+    let before = pattern(room + 2 * GUARD);
+    let mut bytes = before.clone();
+    let answer = write(&mut bytes[GUARD..GUARD + room]);
+    if answer != given.map(<[u8]>::len) {
+        let wanted = given.map(<[u8]>::len);
+        return Err(format!("wanted {wanted:?}, got {answer:?}"));
+    }
+    let mut after = before;
+    let set = given.unwrap_or_default();
+    after[GUARD..GUARD + set.len()].copy_from_slice(set);
+    if bytes == after {
+        return Ok(());
+    }
+    let mut pairs = bytes.iter().zip(&after);
+    let at = pairs.position(|(got, wanted)| got != wanted);
+    let at = at.expect("unlike bytes differ somewhere");
+    Err(format!(
+        "{answer:?}, but byte {} is {:02x} and not {:02x}",
+        at as i64 - GUARD as i64,
+        bytes[at],
+        after[at]
+    ))
 }
 
 /// Bytes of which no run stands in a member by chance.

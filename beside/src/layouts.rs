@@ -12,6 +12,7 @@ use crate::pe::{
     IMPORT_NAME as NAME, IMPORT_NAME_EXPORTAS as EXPORTAS, IMPORT_NAME_NOPREFIX as NOPREFIX,
     IMPORT_NAME_UNDECORATE as UNDECORATE, IMPORT_ORDINAL as ORDINAL,
 };
+use crate::tables::{SLOTS, Table};
 
 const ROOM: usize = 1 << 16;
 const STEMS: [(&str, &str); 5] = [
@@ -88,7 +89,8 @@ impl Paper {
     fn hold(&self) -> Result<usize, String> {
         let list = encode_list(self.dll.as_bytes(), &records(), &records());
         let mut set = vec![0xA5; ROOM];
-        let total = library::write(&list, self.options, &mut set);
+        let mut table = Table::drawn(SLOTS, 0);
+        let total = library::write(&list, self.options, table.lend(), &mut set);
         let total = total.map_err(|refusal| format!("refused {refusal:?}"))?;
         set.truncate(total);
 

@@ -1,7 +1,7 @@
 //! The library's answers as they come, by number and place.
 
 use crate::order::Refusal;
-use crepedum::raw;
+use crepedum::raw::{self, Slot};
 use oracle::Options;
 
 /// The refusal that an answer stands for, if its upper half is a number.
@@ -27,14 +27,19 @@ pub fn total(list: &[u8], options: Options) -> Result<usize, Refusal> {
     refusal(word).map_or(Ok(word as usize), Err)
 }
 
-/// Writes the member set of a list and returns its total, or the refusal's number and place.
-pub fn write(list: &[u8], options: Options, out: &mut [u8]) -> Result<usize, Refusal> {
+/// Writes the member set of a list, in a table of slots, and returns its total, or the refusal's number and place.
+pub fn write(
+    list: &[u8],
+    options: Options,
+    slots: &mut [Slot],
+    out: &mut [u8],
+) -> Result<usize, Refusal> {
     let Options {
         machine,
         mingw,
         compat,
     } = options;
-    let word = raw::write(list, machine, mingw, compat, out);
+    let word = raw::write(list, machine, mingw, compat, slots, out);
     refusal(word).map_or(Ok(word as usize), Err)
 }
 

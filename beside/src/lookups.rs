@@ -155,22 +155,10 @@ fn meaning(set: &[u8], looked: Looked) -> Where {
 
 /// What both lists ask for.
 fn asked(case: &Case) -> [Asked; 2] {
-    let mingw = case.options.mingw;
-    let native = case.options.for_native().machine;
-    let machine = if case.options.is_hybrid() {
-        ARM64EC
-    } else {
-        native
-    };
+    let [first, native] = Maker::both(case.options);
     [
-        Asked::of(Maker { machine, mingw }, &case.list.first),
-        Asked::of(
-            Maker {
-                machine: native,
-                mingw,
-            },
-            &case.list.native,
-        ),
+        Asked::of(first, &case.list.first),
+        Asked::of(native, &case.list.native),
     ]
 }
 

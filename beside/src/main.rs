@@ -21,6 +21,9 @@ mod pe;
 mod plain;
 mod reader;
 mod reads;
+mod scan;
+mod slots;
+mod tables;
 
 use std::process::ExitCode;
 
@@ -31,6 +34,7 @@ usage: beside COMMAND
   damaged COUNT SEED   damaged lists: refusals come in the paper's order
   changed COUNT SEED   changed members: read where they are members still, else refused
   lookup COUNT SEED    symbols of generated lists lead where their records ask, and damaged sets are refused
+  slots COUNT SEED     lists full of equal keys and keys with one hash, in tables with anything in them
   limits               every limit, and one step beyond it
   layouts              the members are laid out as the PE Format document says
   differences          where the library does otherwise than the Rust, on purpose
@@ -48,6 +52,7 @@ fn main() -> ExitCode {
         (Some("damaged"), Some((count, seed))) => compare::damaged(count, seed),
         (Some("changed"), Some((count, seed))) => changed::changed(count, seed),
         (Some("lookup"), Some((count, seed))) => lookups::lookups(count, seed),
+        (Some("slots"), Some((count, seed))) => slots::slots(count, seed),
         (Some("limits"), None) => limits::limits(),
         (Some("layouts"), None) => layouts::layouts(),
         (Some("differences"), None) => differences::differences(),

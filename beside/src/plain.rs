@@ -33,8 +33,29 @@ const WEAK_EXTERNAL: u8 = 105;
 
 const CODE: u16 = 0;
 
+/// The total of a list's member set, or the refusal's number and place.
+pub fn total(list: &[u8], options: Options) -> Result<usize, Refusal> {
+    with_set(list, options, |set| Ok(set.len()))
+}
+
 /// Writes the member set of a list and returns its total, or the refusal's number and place.
 pub fn write(list: &[u8], options: Options, out: &mut [u8]) -> Result<usize, Refusal> {
+    with_set(list, options, |set| {
+        let total = set.len();
+        if total > out.len() {
+            return Err((15, 0));
+        }
+        set.write(&mut out[..total]);
+        Ok(total)
+    })
+}
+
+/// What is done with the set of a list, or its refusal.
+fn with_set(
+    list: &[u8],
+    options: Options,
+    then: impl FnOnce(&Set<'_>) -> Result<usize, Refusal>,
+) -> Result<usize, Refusal> {
     if let Some(refusal) = order::refusal(list, options.machine) {
         return Err(refusal);
     }
@@ -53,17 +74,11 @@ pub fn write(list: &[u8], options: Options, out: &mut [u8]) -> Result<usize, Ref
     let native = Part::of(native, names, native_machine, options.mingw).map_err(behind(count))?;
     let dll = string(list, 20, names).expect("a checked list has a DLL name");
     let factory = Factory::new(dll, stem(dll), native_machine, options.compat);
-    let set = Set {
+    then(&Set {
         factory: &factory,
         first: first.members(),
         native: native.members(),
-    };
-    let total = set.len();
-    if total > out.len() {
-        return Err((15, 0));
-    }
-    set.write(&mut out[..total]);
-    Ok(total)
+    })
 }
 
 /// A refusal in a list that stands behind so many records.
@@ -127,10 +142,16 @@ impl<'a> Export<'a> {
 }
 
 fn find(text: &[u8], pattern: &[u8]) -> Option<usize> {
-    if pattern.is_empty() {
+    let Some((first, rest)) = pattern.split_first() else {
         return Some(0);
+    };
+    let mut at = 0;
+    loop {
+        at += text[at..].iter().position(|byte| byte == first)? + 1;
+        if text[at..].starts_with(rest) {
+            return Some(at - 1);
+        }
     }
-    text.windows(pattern.len()).position(|part| part == pattern)
 }
 
 fn replace_once(text: &[u8], from: &[u8], to: &[u8]) -> Option<Vec<u8>> {
