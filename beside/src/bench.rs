@@ -83,56 +83,54 @@ fn one_hash_list() -> Vec<u8> {
     listed(imports.chain([alias]))
 }
 
-/// Imports and as many aliases of them, all renamed, and each of their strings another one of the longest: parts of one text.
-fn longest_list() -> Vec<u8> {
+/// Where a string stands in the names of a list: its start and its length.
+type Range = (usize, usize);
+const ABSENT: Range = (0, 0);
+
+/// A part of the names as long as a string may be. Each has another text.
+fn longest(start: usize) -> Range {
+    (start, LONGEST)
+}
+
+/// One import, and aliases of it: in each one a name within the longest of strings is replaced.
+fn long_aliases_list() -> Vec<u8> {
+    let import: Range = (FULL, 40);
+    let alias = |k: usize| [(k, 1), (k, 8), longest(k), import, ABSENT];
+    let first = [import, ABSENT, ABSENT, ABSENT, ABSENT];
+    let aliases = (0..FULL / 2).map(alias);
+    ranged(&[first].into_iter().chain(aliases).collect::<Vec<_>>())
+}
+
+/// Imports and as many aliases of them, all renamed, and every string the longest: names, new names and keys.
+fn long_keys_list() -> Vec<u8> {
     let half = FULL / 2;
-    let text: Vec<u8> = (0..FULL + LONGEST).map(letter).collect();
-    let dll = (0, 7);
-    let string = |start: usize| (start, LONGEST);
-    let absent = (0, 0);
-    let import = |k: usize| [string(k), string(half + k), absent, absent, absent];
+    let import = |k: usize| [longest(k), longest(half + k), ABSENT, ABSENT, ABSENT];
     let alias = |k: usize| {
-        [
-            string(half + k),
-            string(k),
-            absent,
-            string(FULL - 1 - k),
-            absent,
-        ]
+        let wanted = longest(FULL - 1 - k);
+        [longest(half + k), longest(k), ABSENT, wanted, ABSENT]
     };
-    let records = (0..half).map(import).chain((0..half).map(alias));
-    let mut list: Vec<u8> = [
-        FULL,
-        0,
-        HEADER_SIZE,
-        HEADER_SIZE + FULL * RECORD_SIZE,
-        text.len(),
-        dll.0,
-        dll.1,
-    ]
-    .into_iter()
-    .flat_map(number)
-    .collect();
+    let imports = (0..half).map(import);
+    ranged(&imports.chain((0..half).map(alias)).collect::<Vec<_>>())
+}
+
+/// A list whose strings are parts of one text without a pattern.
+fn ranged(records: &[[Range; 5]]) -> Vec<u8> {
+    let letter = |k: usize| b'a' + ((k as u32).wrapping_mul(2_654_435_761) >> 16) as u8 % 26;
+    let names: Vec<u8> = (0..FULL + LONGEST).map(letter).collect();
+    let count = records.len();
+    let names_at = HEADER_SIZE + count * RECORD_SIZE;
+    let header = [count, 0, HEADER_SIZE, names_at, names.len(), 0, 7];
+    let mut list: Vec<u8> = header.into_iter().flat_map(number).collect();
     for record in records {
-        list.extend(
-            record
-                .into_iter()
-                .flat_map(|(start, length)| [start, length])
-                .flat_map(number),
-        );
-        list.extend(number(0));
+        let strings = record.iter().flat_map(|&(start, length)| [start, length]);
+        list.extend(strings.chain([0]).flat_map(number));
     }
-    list.extend(text);
+    list.extend(names);
     list
 }
 
 fn number(number: usize) -> [u8; 4] {
     (number as u32).to_le_bytes()
-}
-
-/// Letters without a pattern.
-fn letter(k: usize) -> u8 {
-    b'a' + ((k as u32).wrapping_mul(2_654_435_761) >> 16) as u8 % 26
 }
 
 fn timed(run: impl FnOnce() -> bool) -> u128 {
@@ -266,7 +264,13 @@ fn bench_writes() -> Result<(), Difference> {
     }
     bench_write("write, renamed", (FULL, 0), &renamed_list())?;
     bench_write("write, renamed late", (FULL, 0), &renamed_late_list())?;
-    bench_write("write, 4,095 bytes", (FULL, FULL / 2), &longest_list())?;
+    let half = FULL / 2;
+    bench_write(
+        "write, long aliases",
+        (half + 1, half),
+        &long_aliases_list(),
+    )?;
+    bench_write("write, long keys", (FULL, half), &long_keys_list())?;
     bench_write("write, one hash", (FULL, 1), &one_hash_list())
 }
 
@@ -319,6 +323,6 @@ pub fn bench() -> Result<String, Difference> {
     bench_reads()?;
     bench_lookups()?;
     Ok(format!(
-        "names of 40 bytes where nothing else is said, median of {RUNS}, AMD64"
+        "names of 40 bytes (renamed late: in 1,000; long: 4,095; one hash: 24), median of {RUNS}, AMD64"
     ))
 }
