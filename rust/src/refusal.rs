@@ -5,45 +5,27 @@ use std::fmt;
 /// A refusal of the scope paper, with the index of the record that it is about where it is about one (the first list's records
 /// count from 0, the native list's after them).
 ///
-/// A string that is refused is one of that record, or the DLL name, for which the place is 0 too.
+/// A string that is refused is one of that record, or the DLL name, for which the place is 0 too. `Slots` comes of `raw::write`
+/// only: the wrapper always lends enough.
 #[derive(Clone, Copy, Debug, PartialEq, Eq)]
 pub enum Refusal {
     Machine,
     ListTooShort,
     Count,
     Shape,
-    StringOutside {
-        place: u32,
-    },
-    StringEmpty {
-        place: u32,
-    },
-    StringTooLong {
-        place: u32,
-    },
-    StringNul {
-        place: u32,
-    },
-    UnknownFlag {
-        record: u32,
-    },
+    StringOutside { place: u32 },
+    StringEmpty { place: u32 },
+    StringTooLong { place: u32 },
+    StringNul { place: u32 },
+    UnknownFlag { record: u32 },
     DllName,
-    Renaming {
-        record: u32,
-    },
-    PublicNameEmpty {
-        record: u32,
-    },
-    Arm64ecUnmangled {
-        record: u32,
-    },
-    Arm64ecDemangling {
-        record: u32,
-    },
+    Renaming { record: u32 },
+    PublicNameEmpty { record: u32 },
+    Arm64ecUnmangled { record: u32 },
+    Arm64ecDemangling { record: u32 },
     Room,
     NotAMember,
     NotASet,
-    /// Only of `raw::write`: the wrapper always lends enough.
     Slots,
 }
 
