@@ -64,12 +64,5 @@ pub extern "C" fn crepedum_write(
 ) -> u64
     ensures { λ r. ⌜ WritesWord (record { machine = machine; mingw = mingw; compat = «whole_archive_compat» }) (now (list .entry)) (now (slots .entry)) (now (out .entry)) r (now (slots .exit)) (now (out .exit)) ⌝ }
 {
-    written_word(library::write(
-        list,
-        machine,
-        mingw,
-        whole_archive_compat,
-        slots,
-        out,
-    ))
+    written_word(library::write(list, machine, mingw, whole_archive_compat, slots, out))
 }

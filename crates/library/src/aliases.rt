@@ -25,13 +25,7 @@ pub fn has_wanted(b: &[u8]) -> bool
 }
 
 // Resolves the aliases of both lists.
-pub fn resolve_all(
-    slots: &mut [Row],
-    b: &[u8],
-    machine: Machine,
-    mingw: bool,
-    targets: &mut [u16],
-)
+pub fn resolve_all(slots: &mut [Row], b: &[u8], machine: Machine, mingw: bool, targets: &mut [u16])
     requires { ⌜ tableSlots ≤ length (now slots) ⌝ }
     requires { ⌜ checkList (now b) ≡ Fine ⌝ }
     requires { ⌜ IsMachine machine ⌝ }

@@ -1,5 +1,5 @@
--- Laws of keys: the backward scan over the records gives the last import that answers, as the definition has it over the exports.
-use Prim.Native.Nat.{ℕ, zero, suc, _+_, _-_, _≤_, _<_}
+-- Laws of keys: the last record whose import has a key is the last import that answers, as the definition has it over the exports.
+use Prim.Native.Nat.{ℕ, zero, suc, _+_}
 use mathlib.Core.Path.{_≡_, refl, sym, ap, _∙_}
 use mathlib.Core.Bool.{Bool, true, false}
 use mathlib.Core.Option.{Option, none, some, Option·map}
@@ -57,28 +57,7 @@ module _ (machine : ℕ) (mingw : Bool) (b w : Bytes) (k : ℕ) where
   unfolding planPublic answersTo
   key-11 h e = key-by none h e
 
--- ---- the scan from the back: what a loop cites
-
-module _ (p : ℕ → Bool) (from k : ℕ) (more : from < k) where
-  one-less : k - from ≡ suc (k - 1 - from)
-  one-less = omega arith
-
-  place : from + (k - 1 - from) ≡ k - 1
-  place = omega arith
-
-  pub last-here : p (k - 1) ≡ true → lastIn p from (k - from) ≡ some (k - 1)
-  unfolding lastIn
-  last-here h = rw (one-less, place, h)
-
-  pub last-before : p (k - 1) ≡ false → lastIn p from (k - from) ≡ lastIn p from (k - 1 - from)
-  unfolding lastIn
-  last-before h = rw (one-less, place, h)
-
-pub last-none : (p : ℕ → Bool) (from k : ℕ) → k ≤ from → lastIn p from (k - from) ≡ none
-unfolding lastIn
-last-none p from k h = let z : k - from ≡ 0 = omega arith in rw z
-
--- ---- and over the exports of a list
+-- ---- over the exports of a list
 
 lastIn-zero : (p : ℕ → Bool) (k : ℕ) → lastIn p k 0 ≡ none
 unfolding lastIn

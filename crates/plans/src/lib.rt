@@ -1,7 +1,7 @@
 // What becomes of an export: a port of the walk of write_import_library over one record. A plan holds no name: the final name and the
 // export string are said by where they come from, so that nothing is copied where a name is a part of the list.
 pub mod check; // check.rt: refusals 11 to 14
-pub mod keys; // keys.rt: the last import that answers to a name
+pub mod keys; // keys.rt: whether an import answers to a name
 
 use coff::constants::IMAGE_FILE_MACHINE_ARM64EC;
 use coff::constants::IMAGE_FILE_MACHINE_I386;

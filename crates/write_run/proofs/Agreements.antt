@@ -52,19 +52,20 @@ output-refused k set before out e h = rw (h, ne-eqb 0 (k .number) (λ z. e (sym 
 
 -- ---- what the writer said and left, and what the Rust did
 
-module _ {o : Options} {list set before out after : Bytes} {slots slots′ : List (List ℕ)} {k : Kept} {w v : Written} (wrote : Writes o list slots out w slots′ after)
-    (many : length slots ≡ tableSlots) (told : w ≡ v) (guard : before ≡ out) (asks : (k .number ≡ 15 → ⊥) → asked o list ≡ answer k) where
+module _ {o : Options} {list out after : Bytes} {slots slots′ : List (List ℕ)} {w v : Written} (wrote : Writes o list slots out w slots′ after)
+    (many : length slots ≡ tableSlots) (told : w ≡ v) where
   said : written o list tableSlots (length out) ≡ v
   said = ap (λ (n : ℕ). written o list n (length out)) (sym many) ∙ sym (wrote .answers) ∙ told
 
   left : outputAfter o list tableSlots out ≡ after
   left = ap (λ (n : ℕ). outputAfter o list n out) (sym many) ∙ sym (wrote .output)
 
-  pub agrees-written : (v ≡ answer k) × (k .value ≡ length set) × (after ≡ output k set before) → Agrees o list k set out
-  agrees-written (e, n, h) = record { answers = said ∙ e; total = λ z. n; leaves = left ∙ h ∙ ap (output k set) guard; asks = asks }
+  module _ (k : Kept) (set before : Bytes) (guard : before ≡ out) (asks : (k .number ≡ 15 → ⊥) → asked o list ≡ answer k) where
+    pub agrees-written : (v ≡ answer k) × (k .value ≡ length set) × (after ≡ output k set before) → Agrees o list k set out
+    agrees-written (e, n, h) = record { answers = said ∙ e; total = λ z. n; leaves = left ∙ h ∙ ap (output k set) guard; asks = asks }
 
-  pub agrees-refused : (v ≡ answer k) × (k .number ≡ 0 → ⊥) × ((s : Bytes) → after ≡ output k s before) → Agrees o list k set out
-  agrees-refused (e, n, h) = record { answers = said ∙ e; total = λ z. absurd (n z); leaves = left ∙ h set ∙ ap (output k set) guard; asks = asks }
+    pub agrees-refused : (v ≡ answer k) × (k .number ≡ 0 → ⊥) × ((s : Bytes) → after ≡ output k s before) → Agrees o list k set out
+    agrees-refused (e, n, h) = record { answers = said ∙ e; total = λ z. absurd (n z); leaves = left ∙ h set ∙ ap (output k set) guard; asks = asks }
 
 -- ---- what an agreement says of the definitions: the members are the Rust's
 

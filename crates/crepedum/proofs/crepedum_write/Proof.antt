@@ -8,4 +8,4 @@ returns c = record { answer = _; word = c .written-word .ensures; writes = c .be
 
 pub crepedum-write-spec : {M : Type 1} → statement M
 crepedum-write-spec = tie.close
-    (tie.spec (λ c κs. search needs) (λ c κs. search needs) (λ c. search needs) returns)
+    (tie.spec (λ c κs. search needs) (λ c κs. search needs) (λ c. search needs) (λ c. search needs) returns)
