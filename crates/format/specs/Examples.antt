@@ -1,7 +1,7 @@
 -- 01, "Build examples": P1 to P11, and what they leave untold, as one table about the definitions, proved by computation.
 use Prim.Native.Nat.{ℕ, zero, suc, _+_, _*_}
 use Prim.Native.String.{String}
-use mathlib.Core.Path.{_≡_, refl}
+use mathlib.Core.Path.{_≡_, refl, ap}
 use mathlib.Core.Bool.{true, false}
 use mathlib.Core.Option.{none, some}
 use mathlib.Core.List.{List, [], _∷_, _++_, map}
@@ -31,9 +31,10 @@ use Rattle.format.specs.declared.Checked.the-variants.{Fine, Refused}
 use Rattle.format.specs.declared.Read.the-variants.{ShortImport}
 use Rattle.format.specs.declared.Read.the-variants as R
 use Rattle.format.specs.declared.Looked.the-variants as L
+use Rattle.format.specs.declared.Written.{Written}
 use Rattle.format.specs.declared.Written.the-variants as W
 use Rattle.format.specs.Answers as Answers
-use Rattle.format.specs.Answers.{asked, written, outputAfter}
+use Rattle.format.specs.Answers.{asked, written, outputAfter, Writes}
 use Rattle.format.specs.Library.{setBytes}
 use lib.ListN.{replicate}
 
@@ -427,3 +428,10 @@ hidden =
           (private-right refl no-more));
       native = private-right refl no-more;
     }
+
+-- one slot is too few: whatever meets the writer's promise answers 19, and leaves the slot and the output as they were
+pub one-slot : (r : Written) (slots : List ℕ) (out : Bytes) → Writes (on amd64) (list []) (7 ∷ []) (9 ∷ []) r slots out → (r ≡ W.Refused 19 0) × (slots ≡ 7 ∷ []) × (out ≡ 9 ∷ [])
+unfolding Bytes.opened Machines.opened Exports.opened Names.opened Plan.opened Layouts.opened Library.opened Refusals.opened Answers.opened
+one-slot r slots out w =
+    let is : r ≡ W.Refused 19 0 = w .answers in
+    (is, w .table (ap Answers.writtenNumber is), w .output)
