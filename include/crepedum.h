@@ -9,7 +9,7 @@
 uint64_t crepedum_check(const uint8_t *list, size_t list_len, uint32_t machine, bool mingw);
 
 /* Asks how large the member set of an export list is, so that room can be reserved: the total (below 2^32), or the number of a refusal
-   from 1 to 14 times 2^32, plus its place. Nothing is written; it takes some 112 KiB of stack. */
+   from 1 to 14 times 2^32, plus its place. Nothing is written; it takes up to some 160 KiB of stack. */
 uint64_t crepedum_total(const uint8_t *list, size_t list_len, uint32_t machine, bool mingw, bool whole_archive_compat);
 
 /* A slot of the table that crepedum_write works in; what it holds does not matter. */
