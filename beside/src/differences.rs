@@ -1,19 +1,29 @@
-//! Where the library does otherwise than the Rust on purpose: the smallest inputs, with both answers.
+//! Where the library does otherwise than the Rust on purpose: the smallest inputs, with both answers. And where it does as the
+//! Rust and otherwise than the PE Format document.
 
 use std::fmt::Debug;
 
-use oracle::ask::{AMD64, ARM64EC, FIXED_MEMBERS, answer_list, import_alone, symbols};
+use oracle::ask::{AMD64, ARM64EC, FIXED_MEMBERS, I386, answer_list, import_alone, symbols};
 use oracle::imports::ShortImport;
-use oracle::list::{DATA, NONAME};
+use oracle::list::{CONSTANT, DATA, NONAME};
 use oracle::set::lay_out;
 use oracle::{Answer, Case, Member, Options, Record};
 
+use crate::asked::Where;
 use crate::content::FIELDS;
 use crate::judge::{Difference, Question, same};
 use crate::layouts::members;
-use crate::library;
+use crate::lookups::meaning;
 use crate::order::Refusal;
+use crate::pe::{IMAGE_SYM_CLASS_WEAK_EXTERNAL, IMPORT_NAME_EXPORTAS, Object};
 use crate::tables::{SLOTS, Table};
+use crate::{library, looks};
+
+/// Where the record of a weak external's alias stands: behind the header, a section and three symbols.
+const ALIAS_AT: usize = 114;
+/// The symbols of an import of `#`, of which data has the first alone.
+const THEIRS: [&[u8]; 4] = [b"__imp_", b"", b"__imp_aux_", b"#"];
+const OURS: [&[u8]; 4] = [b"__imp_#", b"#", b"__imp_aux_#", b"#"];
 
 /// What the Rust says, as far as a row asks.
 #[derive(Clone, Copy, Debug, PartialEq)]
@@ -88,6 +98,7 @@ fn rows() -> Vec<Row> {
         row("DLL name .", dll("."), Rust::Error, 10),
         row("DLL name ..", dll(".."), Rust::Error, 10),
         row("DLL name with NUL", dll("\0"), Rust::Members, 8),
+        row("empty DLL name", dll(""), Rust::Error, 6),
         row("name of one byte 0", name(vec![0]), Rust::Members, 8),
         row(
             "name of 4,096 bytes",
@@ -120,11 +131,20 @@ pub fn differences() -> Result<String, Difference> {
         hold(what, *rust, case)?;
         Question::of(case).judge(&Err(*refusal))?;
     }
-    hash_read()?;
-    hash_symbols()?;
-    not_utf8()?;
-    symbol_not_utf8()?;
-    Ok(format!("differences: {} kept", rows.len() + 4))
+    let others: [fn() -> Result<(), Difference>; 8] = [
+        hash_read,
+        hash_by_ordinal,
+        hash_constant,
+        hash_data,
+        not_utf8,
+        symbol_not_utf8,
+        weak_external,
+        exportas,
+    ];
+    for other in others {
+        other()?;
+    }
+    Ok(format!("differences: {} kept", rows.len() + others.len()))
 }
 
 fn told(what: &str, rust: impl Debug, here: &str) {
@@ -144,27 +164,40 @@ fn hash_read() -> Result<(), Difference> {
     same(what, Err((16, 0)), read).map_err(Difference)
 }
 
-/// The symbols of `#` alone where both write it: of the empty name there, of the name itself here.
-fn hash_symbols() -> Result<(), Difference> {
+fn hash_by_ordinal() -> Result<(), Difference> {
     let what = "symbols of ARM64EC # by ordinal";
-    let record = Record::new("#").flags(NONAME).ordinal(7);
-    let theirs: [&[u8]; 4] = [b"__imp_", b"", b"__imp_aux_", b"#"];
-    let ours: [&[u8]; 4] = [b"__imp_#", b"#", b"__imp_aux_#", b"#"];
+    hash_symbols(what, NONAME, OURS.len(), &Where::Ordinal(7))
+}
+
+fn hash_constant() -> Result<(), Difference> {
+    let what = "symbols of ARM64EC constant #";
+    hash_symbols(what, CONSTANT, OURS.len(), &Where::Name(b"#".into()))
+}
+
+fn hash_data() -> Result<(), Difference> {
+    let what = "symbol of ARM64EC data #";
+    hash_symbols(what, DATA, 1, &Where::Name(b"#".into()))
+}
+
+/// The symbols of `#` alone where both write it, so many of them: of the empty name there, of the name itself here, where they
+/// lead to one entry.
+fn hash_symbols(what: &str, flags: u16, count: usize, entry: &Where) -> Result<(), Difference> {
+    let record = Record::new("#").flags(flags).ordinal(7);
     told(what, "__imp_", "\"__imp_#\"");
-    let listed = Some(theirs.map(<[u8]>::to_vec).to_vec());
+    let listed = THEIRS[..count].iter().map(|symbol| symbol.to_vec());
+    let listed = Some(listed.collect());
     same(what, listed, symbols(&the_import(record.clone()))).map_err(Difference)?;
     let set = written(&Case::new(ARM64EC, &[record]))?;
-    let looked = |symbol: &[u8]| {
-        let mut fields = [0; 2];
-        library::lookup(&set, 1, symbol, &mut fields).map(|answer| (answer, fields[0]))
-    };
-    for symbol in theirs.into_iter().chain(ours) {
-        let wanted = if ours.contains(&symbol) {
-            (2, 7)
+    let question = looks::Question::of(&set);
+    let missing = Where::NotFound;
+    for symbol in THEIRS.iter().chain(&OURS) {
+        let wanted = if OURS[..count].contains(symbol) {
+            entry
         } else {
-            (0, 0)
+            &missing
         };
-        same(what, Ok(wanted), looked(symbol)).map_err(Difference)?;
+        let looked = question.judge(1, symbol)?.expect("a written set");
+        same(what, wanted, &meaning(&set, looked)).map_err(Difference)?;
     }
     Ok(())
 }
@@ -198,6 +231,41 @@ fn symbol_not_utf8() -> Result<(), Difference> {
     same(what, None, symbols(&member)).map_err(Difference)?;
     let symbol = ShortImport::of(&member).map(|import| import.symbol);
     same(what, Some(&[0xFF][..]), symbol).map_err(Difference)
+}
+
+/// The storage class of a weak external, the characteristics of its header, and where a short name of it stands.
+fn weak_external() -> Result<(), Difference> {
+    let what = "weak external b of a, I386";
+    let records = [Record::new("a"), Record::new("b").import_name("a")];
+    let imports = as_the_rust(what, &Case::new(I386, &records))?;
+    let weak = &imports[1].bytes;
+    let object = Object::read(weak).map_err(Difference)?;
+    let classes = object.symbols.iter().map(|symbol| symbol.storage_class);
+    let class = Some(IMAGE_SYM_CLASS_WEAK_EXTERNAL);
+    same(what, class, classes.last()).map_err(Difference)?;
+    same(what, 0, object.characteristics).map_err(Difference)?;
+    let in_string_table: &[u8] = &[0, 0, 0, 0, 6, 0, 0, 0];
+    same(what, in_string_table, &weak[ALIAS_AT..ALIAS_AT + 8]).map_err(Difference)
+}
+
+/// A name type that the document's older editions do not have.
+fn exportas() -> Result<(), Difference> {
+    let what = "a exported as b";
+    let case = Case::new(AMD64, &[Record::new("a").export_as("b")]);
+    let imports = as_the_rust(what, &case)?;
+    let name_type = ShortImport::of(&imports[0]).map(|import| import.name_type);
+    same(what, Some(IMPORT_NAME_EXPORTAS), name_type).map_err(Difference)
+}
+
+/// The Rust's members of a first list, which the library writes too.
+fn as_the_rust(what: &str, case: &Case) -> Result<Vec<Member>, Difference> {
+    let answer = case.answer();
+    let Answer::Members(members) = answer else {
+        return Err(Difference(format!("{what}: the Rust says {answer:?}")));
+    };
+    told(what, Rust::Members, "the same");
+    Question::of(case).judge(&Ok(lay_out(&members)))?;
+    Ok(members.first)
 }
 
 /// The set of a list, as the library writes it.

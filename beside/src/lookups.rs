@@ -141,7 +141,7 @@ fn alike(symbol: &[u8], rng: &mut Rng) -> Vec<u8> {
 }
 
 /// What an answer says of a set.
-fn meaning(set: &[u8], looked: Looked) -> Where {
+pub fn meaning(set: &[u8], looked: Looked) -> Where {
     match looked {
         Looked::NotFound => Where::NotFound,
         Looked::Nowhere => Where::Nowhere,
