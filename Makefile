@@ -1,12 +1,16 @@
 # Crepedum: import-library members, proved.
-.PHONY: test prove lib shared example doors compare bench link-test
+.PHONY: test lint prove lib shared example doors compare bench link-test
 
 library := target/staticlib/libcrepedum.a
 sources := crates.txt $(shell find crates -name '*.rt' -o -name '*.antt')
 
-# Everything: proofs, must-fail edits, programs, every way in, and the comparison beside the Rust.
+# Everything: linters, proofs, must-fail edits, programs, every way in, and the comparison beside the Rust.
 test:
 	@tools/test
+
+# How every file is laid out, and what linters find in the Rust and in the shell scripts.
+lint:
+	@tools/lint
 
 # The main job on an example: a total asked for, a member set and its members written, shown, and symbols looked up.
 example:

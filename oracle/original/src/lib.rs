@@ -7,16 +7,16 @@
 use std::cell::RefCell;
 use std::io::{Cursor, Result, Seek, Write};
 
+// The sources stay as they are, whatever a linter finds in them.
+#[allow(warnings, clippy::all)]
 #[path = "../../../../shared/docs/src/coff.rs"]
 #[rustfmt::skip]
 mod coff;
-// Our `ObjectReader` has one field only, so that the update takes none over.
-#[allow(clippy::needless_update)]
+#[allow(warnings, clippy::all)]
 #[path = "../../../../shared/docs/src/coff_import_file.rs"]
 #[rustfmt::skip]
 mod coff_import_file;
-// Its failure to mangle says nothing more, and is handed out as it is.
-#[allow(clippy::result_unit_err)]
+#[allow(warnings, clippy::all)]
 #[path = "../../../../shared/docs/src/mangler.rs"]
 #[rustfmt::skip]
 mod mangler;
