@@ -26,7 +26,7 @@ lib: $(library)
 
 $(library): $(sources)
 	@echo "proving and building $@; the first time takes minutes"
-	@rt staticlib crepedum >/dev/null
+	@tools/staticlib
 	@touch $@
 
 # target/shared/libcrepedum.so, for Python.
