@@ -20,14 +20,18 @@ loop-holds c = (search needs, refl, λ r g. absurd (omega arith))
 
 put-requires : tie.Need-put-requires Inv-loop μ-loop
 put-requires c κs =
-    let l = c .before .before .loop in
-    omega (arith, c .before .loop-test .taken, l .inv .1, c .before .before .before .pre)
+    let at-loop = c .before .before in
+    let start = at-loop .before in
+    let l = at-loop .loop in
+    omega (arith, c .before .loop-test .taken, l .inv .1, start .pre)
 
 loop-again : tie.Need-loop-again Inv-loop μ-loop
 loop-again c =
-    let c₄ = c .before .before .before .before in
-    let l = c₄ .loop in
-    let inside : l .i < length (l .slots) = omega (arith, c .before .before .before .loop-test .taken, l .inv .1, c₄ .before .pre) in
+    let at-loop-test = c .before .before .before in
+    let at-loop = at-loop-test .before in
+    let start = at-loop .before in
+    let l = at-loop .loop in
+    let inside : l .i < length (l .slots) = omega (arith, at-loop-test .loop-test .taken, l .inv .1, start .pre) in
     (omega arith, c .before .put .kept .0 ∙ l .inv .1, free-next (l .slots) _ (l .i) _ inside (c .before .put .ensures) refl (l .inv .2))
 
 returns : tie.Need-returns Inv-loop μ-loop

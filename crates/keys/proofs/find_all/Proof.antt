@@ -19,46 +19,55 @@ abbrev μ-loop : tie.MeasureT-loop
 
 loop-holds : tie.Need-loop-holds Inv-loop μ-loop
 loop-holds c =
-    let p = c .before .before .pre in
+    let start = c .before .before in
+    let p = start .pre in
     (search needs, p .1 .1 .1 .1 .0 .0, refl, λ i g h e. absurd (omega arith), λ j g. refl)
 
 absent-requires : tie.Need-absent-requires Inv-loop μ-loop
 absent-requires c κs =
-    let p = c .before .before .before .before .pre in
+    let start = c .before .before .before .before in
+    let p = start .pre in
     (held _ _ (p .1 .1 .0) (omega (arith, c .loop-test .taken, p .1 .1 .1 .1 .0 .1)), omega arith)
 
 loop-again : tie.Need-loop-again Inv-loop μ-loop
 loop-again c =
-    let c₂ = c .before .before in
-    let l = c₂ .before .loop in
-    (omega arith, omega (arith, c₂ .loop-test .taken), l .inv .2, stored-skip _ _ _ _ _ (l .k) (l .targets) (sym (c .before .absent .ensures) ∙ c .if1 .taken) (l .inv .3), l .inv .4)
+    let at-loop-test = c .before .before in
+    let at-loop = at-loop-test .before in
+    let l = at-loop .loop in
+    (omega arith, omega (arith, at-loop-test .loop-test .taken), l .inv .2, stored-skip _ _ _ _ _ (l .k) (l .targets) (sym (c .before .absent .ensures) ∙ c .if1 .taken) (l .inv .3), l .inv .4)
 
 string-requires : tie.Need-string-requires Inv-loop μ-loop
 string-requires c κs =
-    let c₂ = c .before .before in
-    let p = c₂ .before .before .before .before .pre in
-    (held _ _ (p .1 .1 .0) (omega (arith, c₂ .loop-test .taken, p .1 .1 .1 .1 .0 .1)), omega arith)
+    let at-loop-test = c .before .before in
+    let start = at-loop-test .before .before .before .before in
+    let p = start .pre in
+    (held _ _ (p .1 .1 .0) (omega (arith, at-loop-test .loop-test .taken, p .1 .1 .1 .1 .0 .1)), omega arith)
 
 find-requires : tie.Need-find-requires Inv-loop μ-loop
 find-requires c κs =
-    let p = c .before .before .before .before .before .before .before .pre in
+    let start = c .before .before .before .before .before .before .before in
+    let p = start .pre in
     (p .0, (p .1 .0, (p .1 .1 .0, (p .1 .1 .1 .0, p .1 .1 .1 .1 .0))))
 
 slice-write-targets : tie.Need-slice-write-targets Inv-loop μ-loop
 slice-write-targets c =
-    let c₄ = c .before .before .before .before in
-    let l = c₄ .before .loop in
-    let p = c₄ .before .before .before .before .pre in
-    omega (arith, c₄ .loop-test .taken, l .inv .2, p .1 .1 .1 .1 .0 .1, p .1 .1 .1 .1 .1)
+    let at-loop-test = c .before .before .before .before in
+    let at-loop = at-loop-test .before in
+    let start = at-loop .before .before .before in
+    let l = at-loop .loop in
+    let p = start .pre in
+    omega (arith, at-loop-test .loop-test .taken, l .inv .2, p .1 .1 .1 .1 .0 .1, p .1 .1 .1 .1 .1)
 
 loop-again-2 : tie.Need-loop-again-2 Inv-loop μ-loop
 loop-again-2 c =
-    let c₄ = c .before .before .before .before in
-    let l = c₄ .before .loop in
-    let p = c₄ .before .before .before .before .pre in
-    let room : l .k < length (l .targets) = omega (arith, c₄ .loop-test .taken, l .inv .2, p .1 .1 .1 .1 .0 .1, p .1 .1 .1 .1 .1) in (
+    let at-loop-test = c .before .before .before .before in
+    let at-loop = at-loop-test .before in
+    let start = at-loop .before .before .before in
+    let l = at-loop .loop in
+    let p = start .pre in
+    let room : l .k < length (l .targets) = omega (arith, at-loop-test .loop-test .taken, l .inv .2, p .1 .1 .1 .1 .0 .1, p .1 .1 .1 .1 .1) in (
       omega arith,
-      omega (arith, c₄ .loop-test .taken),
+      omega (arith, at-loop-test .loop-test .taken),
       length-set (l .targets) _ _ ∙ l .inv .2,
       stored-next _ _ _ _ _ (l .k) (l .targets) room (target-of _ _ _ _ _ (l .k) (c .find .ensures) (c .before .string .ensures)) (l .inv .3),
       λ j g. earlier-stays (l .k) j _ (l .targets) (omega (arith, l .inv .0)) ∙ l .inv .4 j g,
@@ -66,9 +75,10 @@ loop-again-2 c =
 
 returns : tie.Need-returns Inv-loop μ-loop
 returns c =
+    let start = c .before .before .before .before in
     let l = c .before .loop in
-    let p = c .before .before .before .before .pre in
-    let room : c .before .before .before .before .args .to ≤ length (l .targets) = omega (arith, l .inv .2, p .1 .1 .1 .1 .0 .1, p .1 .1 .1 .1 .1) in
+    let p = start .pre in
+    let room : start .args .to ≤ length (l .targets) = omega (arith, l .inv .2, p .1 .1 .1 .1 .0 .1, p .1 .1 .1 .1 .1) in
     (stored-all _ _ _ _ _ (l .k) (l .targets) (p .1 .1 .1 .1 .0 .0) (c .loop-test .left) room (l .inv .3), l .inv .4)
 
 pub find-all-spec : {M : Type 1} → statement M

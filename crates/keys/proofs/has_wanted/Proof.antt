@@ -21,18 +21,23 @@ loop-holds c = (search needs, search needs, refl)
 
 absent-requires : tie.Need-absent-requires Inv-loop μ-loop
 absent-requires c κs =
-    let p = c .before .before .before .pre in
+    let start = c .before .before .before in
+    let p = start .pre in
     (held _ _ (p .0) (omega (arith, c .loop-test .taken, p .1 .1)), omega arith)
 
 returns : tie.Need-returns Inv-loop μ-loop
 returns c =
-    let l = c .before .before .before .loop in
-    wanted-here _ (l .k) _ (c .before .before .loop-test .taken) (sym (c .before .absent .ensures) ∙ not-true _ (c .if1 .taken)) ∙ l .inv .2
+    let at-loop-test = c .before .before in
+    let at-loop = at-loop-test .before in
+    let l = at-loop .loop in
+    wanted-here _ (l .k) _ (at-loop-test .loop-test .taken) (sym (c .before .absent .ensures) ∙ not-true _ (c .if1 .taken)) ∙ l .inv .2
 
 loop-again : tie.Need-loop-again Inv-loop μ-loop
 loop-again c =
-    let l = c .before .before .before .loop in
-    (omega arith, omega arith, sym (wanted-later _ (l .k) _ (c .before .before .loop-test .taken) (sym (c .before .absent .ensures) ∙ not-false _ (c .if1 .left))) ∙ l .inv .2)
+    let at-loop-test = c .before .before in
+    let at-loop = at-loop-test .before in
+    let l = at-loop .loop in
+    (omega arith, omega arith, sym (wanted-later _ (l .k) _ (at-loop-test .loop-test .taken) (sym (c .before .absent .ensures) ∙ not-false _ (c .if1 .left))) ∙ l .inv .2)
 
 returns-2 : tie.Need-returns-2 Inv-loop μ-loop
 returns-2 c =

@@ -11,54 +11,55 @@ use Rattle.keys.proofs.insert.Tie as tie
 
 seek-requires : tie.Need-seek-requires
 seek-requires c κs =
-    let s = c .before .before .before .before in
-    let p = s .pre in
+    let start = c .before .before .before .before in
+    let p = start .pre in
     let g = p .1 .1 .1 .1 .0 in
-    (p .0, (within-by _ _ (s .args .k) (bothCounts (s .args .b .now)) _ (g .0) (omega (arith, g .1)) (p .1 .0), (p .1 .1 .0, (p .1 .1 .1 .0, c .before .hash .ensures))))
+    (p .0, (within-by _ _ (start .args .k) (bothCounts (start .args .b .now)) _ (g .0) (omega (arith, g .1)) (p .1 .0), (p .1 .1 .0, (p .1 .1 .1 .0, c .before .hash .ensures))))
 
 put-requires : tie.Need-put-requires
 put-requires c κs =
-    let c₃ = c .before .before .before in
-    let c₅ = c₃ .before .before in
-    let s = c₅ .before .before .before .before .before in
-    let stop = stopped _ _ _ (sym (c₃ .at .given .1) ∙ c₅ .seek .ensures) refl in
-    omega (arith, stop .at, s .pre .0)
+    let at-at = c .before .before .before in
+    let at-seek = at-at .before .before in
+    let start = at-seek .before .before .before .before .before in
+    let stop = stopped _ _ _ (sym (at-at .at .given .1) ∙ at-seek .seek .ensures) refl in
+    omega (arith, stop .at, start .pre .0)
 
 put-requires-2 : tie.Need-put-requires-2
 put-requires-2 c κs =
-    let c₃ = c .before .before .before in
-    let c₅ = c₃ .before .before in
-    let s = c₅ .before .before .before .before .before in
-    let stop = stopped _ _ _ (sym (c₃ .at2 .given .1) ∙ c₅ .seek .ensures) refl in
-    omega (arith, stop .at, s .pre .0)
+    let at-at2 = c .before .before .before in
+    let at-seek = at-at2 .before .before in
+    let start = at-seek .before .before .before .before .before in
+    let stop = stopped _ _ _ (sym (at-at2 .at2 .given .1) ∙ at-seek .seek .ensures) refl in
+    omega (arith, stop .at, start .pre .0)
 
 returns : tie.Need-returns
 returns c =
-    let c₂ = c .before .before in
-    let c₅ = c₂ .before .before .before in
-    let c₇ = c₅ .before .before in
-    let c₉ = c₇ .before .before in
-    let s = c₉ .before .before .before in
-    let p = s .pre in
-    let stop = stopped _ _ _ (sym (c₅ .at .given .1) ∙ c₇ .seek .ensures) refl in
-    insert-by _ (key-one _ _ _) _ _ (s .args .slots .now) _ _ (c₉ .hash .ensures) stop (p .0) (c₂ .holding .ensures) (c .before .put .ensures) (p .1 .1 .1 .1 .0 .0) (p .1 .1 .1 .1 .1) (p .1 .0)
+    let at-holding = c .before .before in
+    let at-at = at-holding .before .before .before in
+    let at-seek = at-at .before .before in
+    let at-hash = at-seek .before .before in
+    let start = at-hash .before .before .before in
+    let p = start .pre in
+    let stop = stopped _ _ _ (sym (at-at .at .given .1) ∙ at-seek .seek .ensures) refl in
+    insert-by _ (key-one _ _ _) _ _ (start .args .slots .now) _ _ (at-hash .hash .ensures) stop (p .0) (at-holding .holding .ensures) (c .before .put .ensures) (p .1 .1 .1 .1 .0 .0) (p .1 .1 .1 .1 .1) (p .1 .0)
 
 returns-2 : tie.Need-returns-2
 returns-2 c =
-    let c₃ = c .before .before .before in
-    let c₅ = c₃ .before .before in
-    let c₇ = c₅ .before .before in
-    let c₉ = c₇ .before .before in
-    let s = c₉ .before .before .before in
-    let p = s .pre in
-    let stop = stopped _ _ _ (sym (c₅ .at2 .given .1) ∙ c₇ .seek .ensures) refl in
-    insert-by _ (key-one _ _ _) _ _ (s .args .slots .now) _ _ (c₉ .hash .ensures) stop (p .0) (c₃ .holding2 .ensures) (c .before .put2 .ensures) (p .1 .1 .1 .1 .0 .0) (p .1 .1 .1 .1 .1) (p .1 .0)
+    let at-holding2 = c .before .before .before in
+    let at-at2 = at-holding2 .before .before in
+    let at-seek = at-at2 .before .before in
+    let at-hash = at-seek .before .before in
+    let start = at-hash .before .before .before in
+    let p = start .pre in
+    let stop = stopped _ _ _ (sym (at-at2 .at2 .given .1) ∙ at-seek .seek .ensures) refl in
+    insert-by _ (key-one _ _ _) _ _ (start .args .slots .now) _ _ (at-hash .hash .ensures) stop (p .0) (at-holding2 .holding2 .ensures) (c .before .put2 .ensures) (p .1 .1 .1 .1 .0 .0) (p .1 .1 .1 .1 .1) (p .1 .0)
 
 returns-3 : tie.Need-returns-3
 returns-3 c =
-    let c₂ = c .before .before in
-    let p = c₂ .before .before .before .before .before .pre in
-    absurd (room-left _ _ _ _ _ (p .1 .0) (omega (arith, p .1 .1 .1 .1 .0 .2)) (unstopped _ _ _ (sym (c .enum-told .given .1) ∙ c₂ .seek .ensures)))
+    let at-seek = c .before .before in
+    let start = at-seek .before .before .before .before .before in
+    let p = start .pre in
+    absurd (room-left _ _ _ _ _ (p .1 .0) (omega (arith, p .1 .1 .1 .1 .0 .2)) (unstopped _ _ _ (sym (c .enum-told .given .1) ∙ at-seek .seek .ensures)))
 
 pub insert-spec : {M : Type 1} → statement M
 insert-spec =

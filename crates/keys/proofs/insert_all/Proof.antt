@@ -20,30 +20,36 @@ abbrev μ-loop : tie.MeasureT-loop
 μ-loop slots₀ b machine mingw from to k₀ slots k = to - k
 
 clear-requires : tie.Need-clear-requires Inv-loop μ-loop
-clear-requires c κs = c .before .before .pre .0
+clear-requires c κs =
+    let start = c .before .before in
+    start .pre .0
 
 loop-holds : tie.Need-loop-holds Inv-loop μ-loop
 loop-holds c =
-    let p = c .before .before .before .before .pre in
+    let start = c .before .before .before .before in
+    let p = start .pre in
     (search needs, p .1 .1 .1 .0, refl, clear-by _ _ _ (c .before .clear .ensures))
 
 insert-record-requires : tie.Need-insert-record-requires Inv-loop μ-loop
 insert-record-requires c κs =
-    let c₂ = c .before .before in
-    let c₄ = c₂ .before .before in
-    let s = c₄ .before .before .before in
-    let p = s .pre in
-    let l = c₂ .loop in
-    let inside : l .k < bothCounts (s .args .b .now) = omega (arith, c .before .loop-test .taken, p .1 .1 .1 .1) in
-    (omega (arith, l .inv .2, c₄ .clear .kept .0, p .0), (l .inv .3, (p .1 .0, (p .1 .1 .0, ((l .inv .0, inside), held _ _ (p .1 .0) inside)))))
+    let at-loop = c .before .before in
+    let at-clear = at-loop .before .before in
+    let start = at-clear .before .before .before in
+    let p = start .pre in
+    let l = at-loop .loop in
+    let inside : l .k < bothCounts (start .args .b .now) = omega (arith, c .before .loop-test .taken, p .1 .1 .1 .1) in
+    (omega (arith, l .inv .2, at-clear .clear .kept .0, p .0), (l .inv .3, (p .1 .0, (p .1 .1 .0, ((l .inv .0, inside), held _ _ (p .1 .0) inside)))))
 
 loop-again : tie.Need-loop-again Inv-loop μ-loop
 loop-again c =
-    let l = c .before .before .before .before .loop in
+    let at-loop = c .before .before .before .before in
+    let l = at-loop .loop in
     (omega arith, omega arith, c .before .insert-record .kept .0 ∙ l .inv .2, c .before .insert-record .ensures)
 
 same-length : tie.Need-same-length Inv-loop μ-loop
-same-length c = c .before .loop .inv .2 ∙ c .before .before .before .clear .kept .0
+same-length c =
+    let at-clear = c .before .before .before in
+    c .before .loop .inv .2 ∙ at-clear .clear .kept .0
 
 returns : tie.Need-returns Inv-loop μ-loop
 returns c =

@@ -16,13 +16,16 @@ returns-2 c =
 
 find-all-requires : tie.Need-find-all-requires
 find-all-requires c κs =
-    let inserted = c .before .before .before in
-    let if1 = inserted .before .before .before .before in
-    let p = if1 .before .before .before .pre in
-    (omega (arith, inserted .insert-all .kept .0, p .0), (inserted .insert-all .ensures, (p .1 .0, (if1 .if1 .left, (p .1 .1 .0, p .1 .1 .1)))))
+    let at-insert-all = c .before .before .before in
+    let at-if1 = at-insert-all .before .before .before .before in
+    let start = at-if1 .before .before .before in
+    let p = start .pre in
+    (omega (arith, at-insert-all .insert-all .kept .0, p .0), (at-insert-all .insert-all .ensures, (p .1 .0, (at-if1 .if1 .left, (p .1 .1 .0, p .1 .1 .1)))))
 
 returns-3 : tie.Need-returns-3
-returns-3 c = (λ m. c .before .before .find-all .ensures .0, c .before .before .find-all .ensures .1)
+returns-3 c =
+    let at-find-all = c .before .before in
+    (λ m. at-find-all .find-all .ensures .0, at-find-all .find-all .ensures .1)
 
 pub resolve-spec : {M : Type 1} → statement M
 resolve-spec =

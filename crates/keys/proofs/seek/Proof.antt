@@ -25,51 +25,68 @@ loop-holds c = (search needs, refl)
 
 get-requires : tie.Need-get-requires Inv-loop μ-loop
 get-requires c κs =
-    let s = c .before .before .before .before .before in
-    omega (arith, c .probe .ensures .1, s .pre .0)
+    let start = c .before .before .before .before .before in
+    omega (arith, c .probe .ensures .1, start .pre .0)
 
 returns : tie.Need-returns Inv-loop μ-loop
 returns c =
-    let c₂ = c .before .before in
-    let c₄ = c₂ .before .before in
-    let l = c₄ .before .loop in
-    let p = c₄ .before .before .before .before .pre in
-    spot-free _ _ _ (l .d) (p .1 .1 .1 .1) (c₂ .before .probe .ensures .0) (c₂ .get .ensures) (l .inv .1) (c₄ .loop-test .taken) (c .if1 .taken)
+    let at-get = c .before .before in
+    let at-probe = at-get .before in
+    let at-loop-test = at-probe .before in
+    let at-loop = at-loop-test .before in
+    let start = at-loop .before .before .before in
+    let l = at-loop .loop in
+    let p = start .pre in
+    spot-free _ _ _ (l .d) (p .1 .1 .1 .1) (at-probe .probe .ensures .0) (at-get .get .ensures) (l .inv .1) (at-loop-test .loop-test .taken) (c .if1 .taken)
 
 loop-again : tie.Need-loop-again Inv-loop μ-loop
 loop-again c =
-    let c₃ = c .before .before .before in
-    let c₅ = c₃ .before .before in
-    let l = c₅ .before .loop in
-    let p = c₅ .before .before .before .before .pre in
-    (omega (arith, c₅ .loop-test .taken), spot-other _ _ _ (l .d) (p .1 .1 .1 .1) (c₃ .before .probe .ensures .0) (c₃ .get .ensures) (l .inv .1) (c₅ .loop-test .taken) (c .before .if1 .left) (c .if2 .taken))
+    let at-get = c .before .before .before in
+    let at-probe = at-get .before in
+    let at-loop-test = at-probe .before in
+    let at-loop = at-loop-test .before in
+    let start = at-loop .before .before .before in
+    let l = at-loop .loop in
+    let p = start .pre in
+    (omega (arith, at-loop-test .loop-test .taken), spot-other _ _ _ (l .d) (p .1 .1 .1 .1) (at-probe .probe .ensures .0) (at-get .get .ensures) (l .inv .1) (at-loop-test .loop-test .taken) (c .before .if1 .left) (c .if2 .taken))
 
 key-is-requires : tie.Need-key-is-requires Inv-loop μ-loop
 key-is-requires c κs =
-    let c₃ = c .before .before .before in
-    let c₅ = c₃ .before .before in
-    let l = c₅ .before .loop in
-    let p = c₅ .before .before .before .before .pre in
-    let old = spot-old _ _ _ (l .d) (p .1 .1 .1 .1) (c₃ .before .probe .ensures .0) (c₃ .get .ensures) (l .inv .1) (c₅ .loop-test .taken) (c .before .if1 .left) _ (p .1 .0) in
+    let at-get = c .before .before .before in
+    let at-probe = at-get .before in
+    let at-loop-test = at-probe .before in
+    let at-loop = at-loop-test .before in
+    let start = at-loop .before .before .before in
+    let l = at-loop .loop in
+    let p = start .pre in
+    let old = spot-old _ _ _ (l .d) (p .1 .1 .1 .1) (at-probe .probe .ensures .0) (at-get .get .ensures) (l .inv .1) (at-loop-test .loop-test .taken) (c .before .if1 .left) _ (p .1 .0) in
     (held _ _ (p .1 .1 .0) old, p .1 .1 .1 .0)
 
 returns-2 : tie.Need-returns-2 Inv-loop μ-loop
 returns-2 c =
-    let c₂ = c .before .before in
-    let c₅ = c₂ .before .before .before in
-    let c₇ = c₅ .before .before in
-    let l = c₇ .before .loop in
-    let p = c₇ .before .before .before .before .pre in
-    spot-used _ _ _ (l .d) (p .1 .1 .1 .1) (c₅ .before .probe .ensures .0) (c₅ .get .ensures) (l .inv .1) (c₇ .loop-test .taken) (c₂ .before .if1 .left) (c₂ .if2 .left) (c .before .key-is .ensures) (c .if3 .taken)
+    let at-if2 = c .before .before in
+    let at-if1 = at-if2 .before in
+    let at-get = at-if1 .before .before in
+    let at-probe = at-get .before in
+    let at-loop-test = at-probe .before in
+    let at-loop = at-loop-test .before in
+    let start = at-loop .before .before .before in
+    let l = at-loop .loop in
+    let p = start .pre in
+    spot-used _ _ _ (l .d) (p .1 .1 .1 .1) (at-probe .probe .ensures .0) (at-get .get .ensures) (l .inv .1) (at-loop-test .loop-test .taken) (at-if1 .if1 .left) (at-if2 .if2 .left) (c .before .key-is .ensures) (c .if3 .taken)
 
 loop-again-2 : tie.Need-loop-again-2 Inv-loop μ-loop
 loop-again-2 c =
-    let c₂ = c .before .before in
-    let c₅ = c₂ .before .before .before in
-    let c₇ = c₅ .before .before in
-    let l = c₇ .before .loop in
-    let p = c₇ .before .before .before .before .pre in
-    (omega (arith, c₇ .loop-test .taken), spot-unlike _ _ _ (l .d) (p .1 .1 .1 .1) (c₅ .before .probe .ensures .0) (c₅ .get .ensures) (l .inv .1) (c₇ .loop-test .taken) (c₂ .before .if1 .left) (c₂ .if2 .left) (c .before .key-is .ensures) (c .if3 .left))
+    let at-if2 = c .before .before in
+    let at-if1 = at-if2 .before in
+    let at-get = at-if1 .before .before in
+    let at-probe = at-get .before in
+    let at-loop-test = at-probe .before in
+    let at-loop = at-loop-test .before in
+    let start = at-loop .before .before .before in
+    let l = at-loop .loop in
+    let p = start .pre in
+    (omega (arith, at-loop-test .loop-test .taken), spot-unlike _ _ _ (l .d) (p .1 .1 .1 .1) (at-probe .probe .ensures .0) (at-get .get .ensures) (l .inv .1) (at-loop-test .loop-test .taken) (at-if1 .if1 .left) (at-if2 .if2 .left) (c .before .key-is .ensures) (c .if3 .left))
 
 returns-3 : tie.Need-returns-3 Inv-loop μ-loop
 returns-3 c =

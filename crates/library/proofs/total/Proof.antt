@@ -6,18 +6,23 @@ use Rattle.library.proofs.total.Tie as tie
 
 total-accepted-requires : tie.Need-total-accepted-requires
 total-accepted-requires c κs =
-    let c₃ = c .before .before .before in
-    let (e, n, is) = accepted-by (c .before .m .given .1) (c₃ .accept .ensures (c₃ .before .before .args .whole-archive-compat)) in
+    let at-accept = c .before .before .before in
+    let start = at-accept .before .before in
+    let (e, n, is) = accepted-by (c .before .m .given .1) (at-accept .accept .ensures (start .args .whole-archive-compat)) in
     (rw n e, is)
 
 returns : tie.Need-returns
 returns c =
-    let c₄ = c .before .before .before .before in
-    let (e, n, is) = accepted-by (c .before .before .m .given .1) (c₄ .accept .ensures (c₄ .before .before .args .whole-archive-compat)) in
+    let at-m = c .before .before in
+    let at-accept = at-m .before .before in
+    let start = at-accept .before .before in
+    let (e, n, is) = accepted-by (at-m .m .given .1) (at-accept .accept .ensures (start .args .whole-archive-compat)) in
     asked-total _ _ e (rw n at (c .total-accepted .ensures))
 
 returns-2 : tie.Need-returns-2
-returns-2 c = asked-stop _ _ _ _ (refused-by (c .before .number .given .1) (c .before .before .before .accept .ensures _))
+returns-2 c =
+    let at-accept = c .before .before .before in
+    asked-stop _ _ _ _ (refused-by (c .before .number .given .1) (at-accept .accept .ensures _))
 
 pub total-spec : {M : Type 1} → statement M
 total-spec =

@@ -7,21 +7,25 @@ use Rattle.library.proofs.write.Tie as tie
 
 write-accepted-requires : tie.Need-write-accepted-requires
 write-accepted-requires c κs =
-    let taken = c .before .before .before in
-    let accepted = taken .before .before in
-    let (e, n, is) = accepted-by (taken .m .given .1) (accepted .accept .ensures (accepted .before .before .before .args .whole-archive-compat)) in
+    let at-m = c .before .before .before in
+    let at-accept = at-m .before .before in
+    let start = at-accept .before .before .before in
+    let (e, n, is) = accepted-by (at-m .m .given .1) (at-accept .accept .ensures (start .args .whole-archive-compat)) in
     (rw n e, is)
 
 returns : tie.Need-returns
 returns c =
-    let taken = c .before .before .before .before .before .before .before in
-    let accepted = taken .before .before in
-    let (e, n, is) = accepted-by (taken .m .given .1) (accepted .accept .ensures (accepted .before .before .before .args .whole-archive-compat)) in
-    rw n at (c .before .before .before .write-accepted .ensures)
+    let at-write-accepted = c .before .before .before in
+    let at-m = at-write-accepted .before .before .before .before in
+    let at-accept = at-m .before .before in
+    let start = at-accept .before .before .before in
+    let (e, n, is) = accepted-by (at-m .m .given .1) (at-accept .accept .ensures (start .args .whole-archive-compat)) in
+    rw n at (at-write-accepted .write-accepted .ensures)
 
 returns-2 : tie.Need-returns-2
 returns-2 c =
-    let (answer, left) = written-stop _ _ _ _ _ _ (refused-by (c .before .number .given .1) (c .before .before .before .accept .ensures _)) in
+    let at-accept = c .before .before .before in
+    let (answer, left) = written-stop _ _ _ _ _ _ (refused-by (c .before .number .given .1) (at-accept .accept .ensures _)) in
     writes-by _ _ answer left (λ _. refl)
 
 pub write-spec : {M : Type 1} → statement M

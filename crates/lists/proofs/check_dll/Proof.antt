@@ -8,27 +8,31 @@ use Rattle.lists.proofs.check_dll.Statement.{statement}
 use Rattle.lists.proofs.check_dll.Tie as tie
 
 returns : tie.Need-returns
-returns c = dll-stop _ _ _ (sym (c .before .before .before .check-string .ensures) ∙ c .before .checked .given .1)
+returns c =
+    let at-check-string = c .before .before .before in
+    dll-stop _ _ _ (sym (at-check-string .check-string .ensures) ∙ c .before .checked .given .1)
 
 part-requires : tie.Need-part-requires
 part-requires c κs =
-    let c₃ = c .before .before .before in
-    let c₅ = c₃ .before .before in
-    omega (arith, string-within _ _ _ _ _ (sym (c₅ .check-string .ensures) ∙ c₃ .enum-told .given .1))
+    let at-enum-told = c .before .before .before in
+    let at-check-string = at-enum-told .before .before in
+    omega (arith, string-within _ _ _ _ _ (sym (at-check-string .check-string .ensures) ∙ at-enum-told .enum-told .given .1))
 
 returns-2 : tie.Need-returns-2
 returns-2 c =
-    let c₆ = c .before .before .before .before .before .before in
-    let c₈ = c₆ .before .before in
-    dll-10 _ _ _ (sym (c₈ .check-string .ensures) ∙ c₆ .enum-told .given .1)
-    (sym (ap barredDll (c .before .before .part .ensures)) ∙ sym (c .before .barred .ensures) ∙ c .if1 .taken) (omega arith) (omega arith)
+    let at-part = c .before .before in
+    let at-enum-told = at-part .before .before .before .before in
+    let at-check-string = at-enum-told .before .before in
+    dll-10 _ _ _ (sym (at-check-string .check-string .ensures) ∙ at-enum-told .enum-told .given .1)
+    (sym (ap barredDll (at-part .part .ensures)) ∙ sym (c .before .barred .ensures) ∙ c .if1 .taken) (omega arith) (omega arith)
 
 returns-3 : tie.Need-returns-3
 returns-3 c =
-    let c₆ = c .before .before .before .before .before .before in
-    let c₈ = c₆ .before .before in
-    dll-fine _ _ _ (sym (c₈ .check-string .ensures) ∙ c₆ .enum-told .given .1)
-    (sym (ap barredDll (c .before .before .part .ensures)) ∙ sym (c .before .barred .ensures) ∙ c .if1 .left) (omega arith) (omega arith)
+    let at-part = c .before .before in
+    let at-enum-told = at-part .before .before .before .before in
+    let at-check-string = at-enum-told .before .before in
+    dll-fine _ _ _ (sym (at-check-string .check-string .ensures) ∙ at-enum-told .enum-told .given .1)
+    (sym (ap barredDll (at-part .part .ensures)) ∙ sym (c .before .barred .ensures) ∙ c .if1 .left) (omega arith) (omega arith)
 
 pub check-dll-spec : {M : Type 1} → statement M
 check-dll-spec =

@@ -18,17 +18,20 @@ loop-holds c = (search needs, rows-start _ _)
 
 returns : tie.Need-returns Inv-loop μ-loop
 returns c =
-    let c₃ = c .before .before .before in
-    let c₄ = c₃ .before in
-    let c₅ = c₄ .before in
-    sym (c₅ .loop .inv .1 ∙ rows-stop _ _ _ _ _ (c₄ .loop-test .taken) (sym (c₃ .check-record .ensures) ∙ c .before .checked .given .1))
+    let at-check-record = c .before .before .before in
+    let at-loop-test = at-check-record .before in
+    let at-loop = at-loop-test .before in
+    sym (at-loop .loop .inv .1 ∙ rows-stop _ _ _ _ _ (at-loop-test .loop-test .taken) (sym (at-check-record .check-record .ensures) ∙ c .before .checked .given .1))
 
 loop-again : tie.Need-loop-again Inv-loop μ-loop
-loop-again c = (
-  search needs,
-  c .before .before .before .before .loop .inv .1
-      ∙ rows-more _ _ _ (c .before .before .before .loop-test .taken) (sym (c .before .before .check-record .ensures) ∙ c .enum-told .given .1),
-)
+loop-again c =
+    let at-check-record = c .before .before in
+    let at-loop-test = at-check-record .before in
+    let at-loop = at-loop-test .before in (
+      search needs,
+      at-loop .loop .inv .1
+          ∙ rows-more _ _ _ (at-loop-test .loop-test .taken) (sym (at-check-record .check-record .ensures) ∙ c .enum-told .given .1),
+    )
 
 returns-2 : tie.Need-returns-2 Inv-loop μ-loop
 returns-2 c = sym (c .before .loop .inv .1 ∙ rows-end _ _ _ (c .loop-test .left))

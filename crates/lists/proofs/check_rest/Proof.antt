@@ -7,13 +7,15 @@ use Rattle.lists.proofs.check_rest.Statement.{statement}
 use Rattle.lists.proofs.check_rest.Tie as tie
 
 returns : tie.Need-returns
-returns c = rest-stop _ _ _ (sym (c .before .before .before .check-dll .ensures) ∙ c .before .dll .given .1)
+returns c =
+    let at-check-dll = c .before .before .before in
+    rest-stop _ _ _ (sym (at-check-dll .check-dll .ensures) ∙ c .before .dll .given .1)
 
 returns-2 : tie.Need-returns-2
 returns-2 c =
-    let c₃ = c .before .before .before in
-    let c₅ = c₃ .before .before in
-    c .check-records .ensures ∙ rest-records _ _ (sym (c₅ .check-dll .ensures) ∙ c₃ .enum-told .given .1) (omega arith)
+    let at-enum-told = c .before .before .before in
+    let at-check-dll = at-enum-told .before .before in
+    c .check-records .ensures ∙ rest-records _ _ (sym (at-check-dll .check-dll .ensures) ∙ at-enum-told .enum-told .given .1) (omega arith)
 
 pub check-rest-spec : {M : Type 1} → statement M
 check-rest-spec =

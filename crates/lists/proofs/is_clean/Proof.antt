@@ -6,7 +6,9 @@ use Rattle.lists.proofs.is_clean.Statement.{statement}
 use Rattle.lists.proofs.is_clean.Tie as tie
 
 returns : tie.Need-returns
-returns c = clean-names _ _ _ _ (c .before .before .before .before .pre) (omega arith) (omega arith) (c .held-in .ensures)
+returns c =
+    let start = c .before .before .before .before in
+    clean-names _ _ _ _ (start .pre) (omega arith) (omega arith) (c .held-in .ensures)
 
 pub is-clean-spec : {M : Type 1} → statement M
 is-clean-spec =

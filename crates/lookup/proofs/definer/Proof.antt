@@ -16,29 +16,41 @@ abbrev μ-loop : tie.MeasureT-loop
 μ-loop set from to symbol i₀ i = to - i
 
 loop-holds : tie.Need-loop-holds Inv-loop μ-loop
-loop-holds c = (omega arith, c .before .before .pre .1 .0, refl)
+loop-holds c =
+    let start = c .before .before in
+    (omega arith, start .pre .1 .0, refl)
 
 member-at-requires : tie.Need-member-at-requires Inv-loop μ-loop
-member-at-requires c κs = let p = c .before .before .before .before .pre in (p .0, omega (arith, c .loop-test .taken, p .1 .1))
+member-at-requires c κs =
+    let start = c .before .before .before .before in
+    let p = start .pre in (p .0, omega (arith, c .loop-test .taken, p .1 .1))
 
 returns : tie.Need-returns Inv-loop μ-loop
 returns c =
-    let l = c .before .before .before .before .loop in
-    let d = defines-at _ _ _ (c .before .bytes-define .ensures) (c .before .before .member-at .ensures .0) in
-    sym (ap placeOf (l .inv .2 ∙ definer-here _ _ (l .i) _ (c .before .before .before .loop-test .taken) (sym d ∙ c .if1 .taken)))
+    let at-member-at = c .before .before in
+    let at-loop-test = at-member-at .before in
+    let at-loop = at-loop-test .before in
+    let l = at-loop .loop in
+    let d = defines-at _ _ _ (c .before .bytes-define .ensures) (at-member-at .member-at .ensures .0) in
+    sym (ap placeOf (l .inv .2 ∙ definer-here _ _ (l .i) _ (at-loop-test .loop-test .taken) (sym d ∙ c .if1 .taken)))
 
 add-i : tie.Need-add-i Inv-loop μ-loop
-add-i c = omega (arith, c .before .before .before .loop-test .taken)
+add-i c =
+    let at-loop-test = c .before .before .before in
+    omega (arith, at-loop-test .loop-test .taken)
 
 loop-less : tie.Need-loop-less Inv-loop μ-loop
-loop-less c = omega (arith, c .before .before .before .loop-test .taken)
+loop-less c =
+    let at-loop-test = c .before .before .before in
+    omega (arith, at-loop-test .loop-test .taken)
 
 loop-again : tie.Need-loop-again Inv-loop μ-loop
 loop-again c =
-    let c₃ = c .before .before .before in
-    let c₄ = c₃ .before in
-    let l = c₄ .loop in let d = defines-at _ _ _ (c .before .bytes-define .ensures) (c .before .before .member-at .ensures .0) in
-    (omega (arith, l .inv .0), omega (arith, c₃ .loop-test .taken), l .inv .2 ∙ definer-later _ _ (l .i) _ (c₃ .loop-test .taken) (sym d ∙ c .if1 .left))
+    let at-member-at = c .before .before in
+    let at-loop-test = at-member-at .before in
+    let at-loop = at-loop-test .before in
+    let l = at-loop .loop in let d = defines-at _ _ _ (c .before .bytes-define .ensures) (at-member-at .member-at .ensures .0) in
+    (omega (arith, l .inv .0), omega (arith, at-loop-test .loop-test .taken), l .inv .2 ∙ definer-later _ _ (l .i) _ (at-loop-test .loop-test .taken) (sym d ∙ c .if1 .left))
 
 returns-2 : tie.Need-returns-2 Inv-loop μ-loop
 returns-2 c =

@@ -20,95 +20,124 @@ abbrev μ-loop : tie.MeasureT-loop
 μ-loop set from to symbol n i₀ i = to - i
 
 count-requires : tie.Need-count-requires Inv-loop μ-loop
-count-requires c κs = c .before .before .pre .0
+count-requires c κs =
+    let start = c .before .before in
+    start .pre .0
 
 loop-holds : tie.Need-loop-holds Inv-loop μ-loop
 loop-holds c =
-    let a = c .before .before .before .args in
+    let start = c .before .before .before in
+    let a = start .args in
     (ap (λ n. rankedFrom (a .set .now) 3 (a .from) (n - a .from)) (sym (c .count .ensures .0)), refl)
 
 member-at-requires : tie.Need-member-at-requires Inv-loop μ-loop
-member-at-requires c κs = let p = c .before .before .before .before .before .pre in (p .0, omega (arith, c .loop-test .taken, p .1))
+member-at-requires c κs =
+    let start = c .before .before .before .before .before in
+    let p = start .pre in (p .0, omega (arith, c .loop-test .taken, p .1))
 
 returns : tie.Need-returns Inv-loop μ-loop
 returns c =
-    let c₄ = c .before .before .before .before in
-    let c₆ = c₄ .before .before in
-    let l = c₄ .before .loop in
-    let p = c₆ .before .before .before .pre in
-    let r = rank-at _ _ (c .before .rank .ensures) (c .before .before .read .ensures) (c .before .before .before .member-at .ensures .0) in
-    sought-refused _ _ (l .inv .0 ∙ ranked-not _ _ 3 (l .i) (omega (arith, c₄ .loop-test .taken, c₆ .count .ensures .0, p .1)) (λ e. c .if1 .taken (r ∙ e)))
+    let at-read = c .before .before in
+    let at-member-at = at-read .before in
+    let at-loop-test = at-member-at .before in
+    let at-loop = at-loop-test .before in
+    let at-count = at-loop .before in
+    let start = at-count .before .before .before in
+    let l = at-loop .loop in
+    let p = start .pre in
+    let r = rank-at _ _ (c .before .rank .ensures) (at-read .read .ensures) (at-member-at .member-at .ensures .0) in
+    sought-refused _ _ (l .inv .0 ∙ ranked-not _ _ 3 (l .i) (omega (arith, at-loop-test .loop-test .taken, at-count .count .ensures .0, p .1)) (λ e. c .if1 .taken (r ∙ e)))
 
 add-ranked : tie.Need-add-ranked Inv-loop μ-loop
-add-ranked c = omega (arith, c .before .before .before .before .before .before .loop-test .taken)
+add-ranked c =
+    let at-loop-test = c .before .before .before .before .before .before in
+    omega (arith, at-loop-test .loop-test .taken)
 
 ranked-requires : tie.Need-ranked-requires Inv-loop μ-loop
 ranked-requires c κs =
-    let c₈ = c .before .before .before .before .before .before .before .before in
-    (c₈ .before .before .before .pre .0, (omega arith, omega (arith, c₈ .count .ensures .0)))
+    let at-count = c .before .before .before .before .before .before .before .before in
+    let start = at-count .before .before .before in
+    (start .pre .0, (omega arith, omega (arith, at-count .count .ensures .0)))
 
 returns-2 : tie.Need-returns-2 Inv-loop μ-loop
 returns-2 c =
-    let c₃ = c .before .before .before in
-    let c₅ = c₃ .before .before in
-    let c₇ = c₅ .before .before in
-    let c₈ = c₇ .before in
-    let l = c₈ .before .loop in
-    let c₁₀ = c₈ .before .before in
-    let s = c₁₀ .before .before .before in
-    let p = s .pre in
-    let r = rank-at _ _ (c₅ .rank .ensures) (c₅ .before .read .ensures) (c₇ .member-at .ensures .0) in
-    let d = defines-at _ _ _ (c₃ .defines .ensures) (c₇ .member-at .ensures .0) in
-    let here = ranked-next (s .args .set .now) (c₁₀ .count .result) 3 (l .i) (omega (arith, c₈ .loop-test .taken, c₁₀ .count .ensures .0, p .1)) (sym r ∙ c₃ .before .if1 .left) (next-listed 3 refl) in
+    let at-if2 = c .before .before in
+    let at-defines = at-if2 .before in
+    let at-if1 = at-defines .before in
+    let at-rank = at-if1 .before in
+    let at-read = at-rank .before in
+    let at-member-at = at-read .before in
+    let at-loop-test = at-member-at .before in
+    let at-loop = at-loop-test .before in
+    let at-count = at-loop .before in
+    let start = at-count .before .before .before in
+    let l = at-loop .loop in
+    let p = start .pre in
+    let r = rank-at _ _ (at-rank .rank .ensures) (at-read .read .ensures) (at-member-at .member-at .ensures .0) in
+    let d = defines-at _ _ _ (at-defines .defines .ensures) (at-member-at .member-at .ensures .0) in
+    let here = ranked-next (start .args .set .now) (at-count .count .result) 3 (l .i) (omega (arith, at-loop-test .loop-test .taken, at-count .count .ensures .0, p .1)) (sym r ∙ at-if1 .if1 .left) (next-listed 3 refl) in
     sought-at _ _ (l .inv .0 ∙ here ∙ sym (c .before .ranked .ensures) ∙ c .if3 .taken)
-    (l .inv .1 ∙ definer-here _ _ (l .i) _ (c₈ .loop-test .taken) (sym d ∙ c .before .before .if2 .taken))
+    (l .inv .1 ∙ definer-here _ _ (l .i) _ (at-loop-test .loop-test .taken) (sym d ∙ at-if2 .if2 .taken))
 
 returns-3 : tie.Need-returns-3 Inv-loop μ-loop
 returns-3 c =
-    let c₃ = c .before .before .before in
-    let c₅ = c₃ .before .before in
-    let c₇ = c₅ .before .before in
-    let c₈ = c₇ .before in
-    let l = c₈ .before .loop in
-    let c₁₀ = c₈ .before .before in
-    let s = c₁₀ .before .before .before in
-    let p = s .pre in
-    let r = rank-at _ _ (c₅ .rank .ensures) (c₅ .before .read .ensures) (c₇ .member-at .ensures .0) in
-    let here = ranked-next (s .args .set .now) (c₁₀ .count .result) 3 (l .i) (omega (arith, c₈ .loop-test .taken, c₁₀ .count .ensures .0, p .1)) (sym r ∙ c₃ .before .if1 .left) (next-listed 3 refl) in
+    let at-if1 = c .before .before .before .before in
+    let at-rank = at-if1 .before in
+    let at-read = at-rank .before in
+    let at-member-at = at-read .before in
+    let at-loop-test = at-member-at .before in
+    let at-loop = at-loop-test .before in
+    let at-count = at-loop .before in
+    let start = at-count .before .before .before in
+    let l = at-loop .loop in
+    let p = start .pre in
+    let r = rank-at _ _ (at-rank .rank .ensures) (at-read .read .ensures) (at-member-at .member-at .ensures .0) in
+    let here = ranked-next (start .args .set .now) (at-count .count .result) 3 (l .i) (omega (arith, at-loop-test .loop-test .taken, at-count .count .ensures .0, p .1)) (sym r ∙ at-if1 .if1 .left) (next-listed 3 refl) in
     sought-refused _ _ (l .inv .0 ∙ here ∙ sym (c .before .ranked .ensures) ∙ c .if3 .left)
 
 add-i : tie.Need-add-i Inv-loop μ-loop
-add-i c = omega (arith, c .before .before .before .before .before .before .loop-test .taken)
+add-i c =
+    let at-loop-test = c .before .before .before .before .before .before in
+    omega (arith, at-loop-test .loop-test .taken)
 
 loop-less : tie.Need-loop-less Inv-loop μ-loop
-loop-less c = omega (arith, c .before .before .before .before .before .before .loop-test .taken)
+loop-less c =
+    let at-loop-test = c .before .before .before .before .before .before in
+    omega (arith, at-loop-test .loop-test .taken)
 
 loop-again : tie.Need-loop-again Inv-loop μ-loop
 loop-again c =
-    let c₃ = c .before .before .before in
-    let c₅ = c₃ .before .before in
-    let c₆ = c₅ .before in
-    let l = c₆ .before .loop in
-    let c₈ = c₆ .before .before in
-    let p = c₈ .before .before .before .pre in
-    let r = rank-at _ _ (c₃ .rank .ensures) (c₃ .before .read .ensures) (c₅ .member-at .ensures .0) in
-    let d = defines-at _ _ _ (c .before .defines .ensures) (c₅ .member-at .ensures .0) in
-    (l .inv .0 ∙ ranked-next _ _ 3 (l .i) (omega (arith, c₆ .loop-test .taken, c₈ .count .ensures .0, p .1)) (sym r ∙ c .before .before .if1 .left) (next-listed 3 refl), l .inv .1 ∙ definer-later _ _ (l .i) _ (c₆ .loop-test .taken) (sym d ∙ c .if2 .left))
+    let at-if1 = c .before .before in
+    let at-rank = at-if1 .before in
+    let at-read = at-rank .before in
+    let at-member-at = at-read .before in
+    let at-loop-test = at-member-at .before in
+    let at-loop = at-loop-test .before in
+    let at-count = at-loop .before in
+    let start = at-count .before .before .before in
+    let l = at-loop .loop in
+    let p = start .pre in
+    let r = rank-at _ _ (at-rank .rank .ensures) (at-read .read .ensures) (at-member-at .member-at .ensures .0) in
+    let d = defines-at _ _ _ (c .before .defines .ensures) (at-member-at .member-at .ensures .0) in
+    (l .inv .0 ∙ ranked-next _ _ 3 (l .i) (omega (arith, at-loop-test .loop-test .taken, at-count .count .ensures .0, p .1)) (sym r ∙ at-if1 .if1 .left) (next-listed 3 refl), l .inv .1 ∙ definer-later _ _ (l .i) _ (at-loop-test .loop-test .taken) (sym d ∙ c .if2 .left))
 
 ranked-requires-2 : tie.Need-ranked-requires-2 Inv-loop μ-loop
 ranked-requires-2 c κs =
-    let c₂ = c .before .before in
-    (c₂ .before .before .before .pre .0, (omega arith, omega (arith, c₂ .count .ensures .0)))
+    let at-count = c .before .before in
+    let start = at-count .before .before .before in
+    (start .pre .0, (omega arith, omega (arith, at-count .count .ensures .0)))
 
 returns-4 : tie.Need-returns-4 Inv-loop μ-loop
 returns-4 c =
-    let c₂ = c .before .before in
-    let l = c₂ .before .loop in
-    sought-nowhere _ _ (l .inv .0 ∙ sym (c .before .ranked2 .ensures) ∙ c .if4 .taken) (l .inv .1 ∙ definer-end _ _ (l .i) _ (c₂ .loop-test .left))
+    let at-loop-test = c .before .before in
+    let at-loop = at-loop-test .before in
+    let l = at-loop .loop in
+    sought-nowhere _ _ (l .inv .0 ∙ sym (c .before .ranked2 .ensures) ∙ c .if4 .taken) (l .inv .1 ∙ definer-end _ _ (l .i) _ (at-loop-test .loop-test .left))
 
 returns-5 : tie.Need-returns-5 Inv-loop μ-loop
 returns-5 c =
-    let l = c .before .before .before .loop in
+    let at-loop = c .before .before .before in
+    let l = at-loop .loop in
     sought-refused _ _ (l .inv .0 ∙ sym (c .before .ranked2 .ensures) ∙ c .if4 .left)
 
 pub seek-spec : {M : Type 1} → statement M

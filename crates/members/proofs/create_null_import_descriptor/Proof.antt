@@ -9,18 +9,19 @@ use Rattle.members.proofs.create_null_import_descriptor.Tie as tie
 returns : tie.Need-returns
 unfolding encode nullDescriptorBytes
 returns c =
-    let c₆ = c .before .before in
-    let c₅ = c₆ .before .before .before .before in
-    let c₄ = c₅ .before .before .before .before in
-    let c₃ = c₄ .before .before .before .before in
-    let c₂ = c₃ .before .before .before .before .before .before in
-    let c₁ = c₂ .before .before in
-    let m = c₁ .before .before .before .args .machine .number in
-    (headed m 1 nullSymbolsAt 1 (c₁ .characteristics .ensures) (c₂ .write .ensures)
-    ⊕ one (c₃ .write2 .ensures)
-    ⊕ one (c₄ .write3 .ensures)
-    ⊕ one (c₅ .put-long .ensures)
-    ⊕ table-part (c₆ .put-null-table .ensures)) .wrote
+    let at-put-null-table = c .before .before in
+    let at-put-long = at-put-null-table .before .before .before .before in
+    let at-write3 = at-put-long .before .before .before .before in
+    let at-write2 = at-write3 .before .before .before .before in
+    let at-write = at-write2 .before .before .before .before .before .before in
+    let at-characteristics = at-write .before .before in
+    let start = at-characteristics .before .before .before in
+    let m = start .args .machine .number in
+    (headed m 1 nullSymbolsAt 1 (at-characteristics .characteristics .ensures) (at-write .write .ensures)
+    ⊕ one (at-write2 .write2 .ensures)
+    ⊕ one (at-write3 .write3 .ensures)
+    ⊕ one (at-put-long .put-long .ensures)
+    ⊕ table-part (at-put-null-table .put-null-table .ensures)) .wrote
 
 pub create-null-import-descriptor-spec : {M : Type 1} → statement M
 create-null-import-descriptor-spec =

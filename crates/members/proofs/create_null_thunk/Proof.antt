@@ -10,15 +10,15 @@ use Rattle.members.proofs.create_null_thunk.Tie as tie
 returns : tie.Need-returns
 unfolding encode
 returns c =
-    let c₃ = c .before .before in
-    let c₂ = c₃ .before .before in
-    let c₁ = c₂ .before in
-    let s = c₁ .before .before .before in
-    let m = s .args .machine .number in
-    let t = thunkName (s .args .stem .now) in
-    wrote-as (ap (λ (n : ℕ). nullThunkBytes m n (c₂ .slot-alignment .result) t) (c₁ .slot-size .ensures .0)
-    ∙ ap (λ (n : ℕ). nullThunkBytes m (slotSize m) n t) (c₂ .slot-alignment .ensures .0))
-    (c₃ .put-null-thunk .ensures)
+    let at-put-null-thunk = c .before .before in
+    let at-slot-alignment = at-put-null-thunk .before .before in
+    let at-slot-size = at-slot-alignment .before in
+    let start = at-slot-size .before .before .before in
+    let m = start .args .machine .number in
+    let t = thunkName (start .args .stem .now) in
+    wrote-as (ap (λ (n : ℕ). nullThunkBytes m n (at-slot-alignment .slot-alignment .result) t) (at-slot-size .slot-size .ensures .0)
+    ∙ ap (λ (n : ℕ). nullThunkBytes m (slotSize m) n t) (at-slot-alignment .slot-alignment .ensures .0))
+    (at-put-null-thunk .put-null-thunk .ensures)
 
 pub create-null-thunk-spec : {M : Type 1} → statement M
 create-null-thunk-spec =

@@ -7,13 +7,15 @@ use Rattle.members.proofs.create_weak_external.Tie as tie
 
 returns : tie.Need-returns
 returns c =
-    let c₁ = c .before .before in
-    wrote-as (weak-prefixed _ _ _ _ (c .before .before .before .before .before .if1 .taken)) (c₁ .put-weak-external .ensures)
+    let at-put-weak-external = c .before .before in
+    let at-if1 = at-put-weak-external .before .before .before in
+    wrote-as (weak-prefixed _ _ _ _ (at-if1 .if1 .taken)) (at-put-weak-external .put-weak-external .ensures)
 
 returns-2 : tie.Need-returns-2
 returns-2 c =
-    let c₁ = c .before .before in
-    wrote-as (weak-plain _ _ _ _ (c .before .before .before .before .before .if1 .left)) (c₁ .put-weak-external2 .ensures)
+    let at-put-weak-external2 = c .before .before in
+    let at-if1 = at-put-weak-external2 .before .before .before in
+    wrote-as (weak-plain _ _ _ _ (at-if1 .if1 .left)) (at-put-weak-external2 .put-weak-external2 .ensures)
 
 pub create-weak-external-spec : {M : Type 1} → statement M
 create-weak-external-spec =

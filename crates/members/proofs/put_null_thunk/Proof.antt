@@ -8,30 +8,29 @@ use Rattle.members.proofs.put_null_thunk.Tie as tie
 
 put-thunk-table-requires : tie.Need-put-thunk-table-requires
 put-thunk-table-requires c κs =
-    let c₄ = c .before .before .before .before .before .before .before .before in
-    let c₃ = c₄ .before .before .before .before .before .before .before .before in
-    let c₂ = c₃ .before .before .before .before .before .before .before .before in
-    c₂ .before .before .before .before .before .before .before .before .pre .1 .1
+    let start = c .before .before .before .before .before .before .before .before .before .before .before .before .before .before .before .before .before .before .before .before .before .before .before .before .before .before .before .before .before .before .before .before in
+    start .pre .1 .1
 
 returns : tie.Need-returns
 unfolding nullThunkBytes
 returns c =
-    let c₈ = c .before .before in
-    let c₇ = c₈ .before .before .before .before in
-    let c₆ = c₇ .before .before .before .before in
-    let c₅ = c₆ .before .before .before .before in
-    let c₄ = c₅ .before .before .before .before in
-    let c₃ = c₄ .before .before .before .before .before .before in
-    let c₂ = c₃ .before .before .before .before .before .before in
-    let c₁ = c₂ .before .before in
-    let a = c₁ .before .before .before .args in
-    (headed (a .machine .number) 2 (thunkSymbolsAt (a .slot)) 1 (c₁ .characteristics .ensures) (c₂ .write .ensures)
-    ⊕ one (c₃ .write2 .ensures)
-    ⊕ one (c₄ .write3 .ensures)
-    ⊕ one (c₅ .put-zeros .ensures)
-    ⊕ one (c₆ .put-zeros2 .ensures)
-    ⊕ one (c₇ .put-long .ensures)
-    ⊕ table-part (c₈ .put-thunk-table .ensures)) .wrote
+    let at-put-thunk-table = c .before .before in
+    let at-put-long = at-put-thunk-table .before .before .before .before in
+    let at-put-zeros2 = at-put-long .before .before .before .before in
+    let at-put-zeros = at-put-zeros2 .before .before .before .before in
+    let at-write3 = at-put-zeros .before .before .before .before in
+    let at-write2 = at-write3 .before .before .before .before .before .before in
+    let at-write = at-write2 .before .before .before .before .before .before in
+    let at-characteristics = at-write .before .before in
+    let start = at-characteristics .before .before .before in
+    let a = start .args in
+    (headed (a .machine .number) 2 (thunkSymbolsAt (a .slot)) 1 (at-characteristics .characteristics .ensures) (at-write .write .ensures)
+    ⊕ one (at-write2 .write2 .ensures)
+    ⊕ one (at-write3 .write3 .ensures)
+    ⊕ one (at-put-zeros .put-zeros .ensures)
+    ⊕ one (at-put-zeros2 .put-zeros2 .ensures)
+    ⊕ one (at-put-long .put-long .ensures)
+    ⊕ table-part (at-put-thunk-table .put-thunk-table .ensures)) .wrote
 
 pub put-null-thunk-spec : {M : Type 1} → statement M
 put-null-thunk-spec =

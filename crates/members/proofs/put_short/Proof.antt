@@ -11,14 +11,14 @@ use Rattle.members.proofs.put_short.Tie as tie
 
 returns : tie.Need-returns
 returns c =
-    let c₃ = c .before .before in
-    let c₂ = c₃ .before .before .before .before in
-    let c₁ = c₂ .before .before .before .before in
-    let s = c₁ .before .before .before .before .before in
-    let a = s .args in
+    let at-put-string2 = c .before .before in
+    let at-put-string = at-put-string2 .before .before .before .before in
+    let at-write = at-put-string .before .before .before .before in
+    let start = at-write .before .before .before .before .before in
+    let a = start .args in
     let h = wrote-as (ap (λ (n : ℕ). importHeader (a .machine) n (a .ordinal) (a .types)) (size-short (a .sym .now) (a .dll .now)))
-    (c₁ .write .ensures) in
-    h ⨾ (c₂ .put-string .ensures ⊞ c₃ .put-string2 .ensures) .wrote
+    (at-write .write .ensures) in
+    h ⨾ (at-put-string .put-string .ensures ⊞ at-put-string2 .put-string2 .ensures) .wrote
 
 pub put-short-spec : {M : Type 1} → statement M
 put-short-spec =

@@ -11,15 +11,15 @@ use Rattle.members.proofs.put_short_as.Tie as tie
 
 returns : tie.Need-returns
 returns c =
-    let c₄ = c .before .before in
-    let c₃ = c₄ .before .before .before .before in
-    let c₂ = c₃ .before .before .before .before in
-    let c₁ = c₂ .before .before .before .before in
-    let s = c₁ .before .before .before .before .before .before .before in
-    let a = s .args in
+    let at-put-pieces = c .before .before in
+    let at-put-string2 = at-put-pieces .before .before .before .before in
+    let at-put-string = at-put-string2 .before .before .before .before in
+    let at-write = at-put-string .before .before .before .before in
+    let start = at-write .before .before .before .before .before .before .before in
+    let a = start .args in
     let h = wrote-as (ap (λ (n : ℕ). importHeader (a .machine) n (a .ordinal) (a .types)) (size-exported (a .sym .now) (a .dll .now) (a .head .now) (a .tail .now)))
-    (c₁ .write .ensures) in
-    h ⨾ (c₂ .put-string .ensures ⊞ c₃ .put-string2 .ensures ⊞ c₄ .put-pieces .ensures) .wrote
+    (at-write .write .ensures) in
+    h ⨾ (at-put-string .put-string .ensures ⊞ at-put-string2 .put-string2 .ensures ⊞ at-put-pieces .put-pieces .ensures) .wrote
 
 pub put-short-as-spec : {M : Type 1} → statement M
 put-short-as-spec =

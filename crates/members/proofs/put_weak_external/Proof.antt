@@ -15,21 +15,21 @@ use Rattle.members.proofs.put_weak_external.Tie as tie
 returns : tie.Need-returns
 unfolding weakBytes strings
 returns c =
-    let c₅ = c .before .before in
-    let c₄ = c₅ .before .before .before .before in
-    let c₃ = c₄ .before .before in
-    let c₂ = c₃ .before .before .before in
-    let c₁ = c₂ .before .before .before .before .before .before in
-    let s = c₁ .before .before .before .before .before .before in
-    let p = s .args .prefix .now in
-    let n = s .args .sym .now in
-    let w = s .args .weak .now in
+    let at-put-weak-symbols = c .before .before in
+    let at-put-weak-table = at-put-weak-symbols .before .before .before .before in
+    let at-stop = at-put-weak-table .before .before in
+    let at-write2 = at-stop .before .before .before in
+    let at-write = at-write2 .before .before .before .before .before .before in
+    let start = at-write .before .before .before .before .before .before in
+    let p = start .args .prefix .now in
+    let n = start .args .sym .now in
+    let w = start .args .weak .now in
     let aliasAt = stringsAt + (length (p ++ n) + 1) in
-    let t = c₄ .put-weak-table .result in
-    let at = c₄ .put-weak-table .ensures .1 in
+    let t = at-put-weak-table .put-weak-table .result in
+    let at = at-put-weak-table .put-weak-table .ensures .1 in
     let symbols = parts-as (ap (λ (i : ℕ). weakSymbols i (t .«alias_at»)) (at .0)
-    ∙ ap (weakSymbols stringsAt) (at .1 ∙ begins-second (p ++ n) ((p ++ w) ∷ []))) (c₅ .put-weak-symbols .ensures) in
-    (one (c₁ .write .ensures) ⊕ one (c₂ .write2 .ensures) ⊕ behind-parts (symbols-weak stringsAt aliasAt) (c₃ .stop .ensures) (table-part (c₄ .put-weak-table .ensures .0)) symbols) .wrote
+    ∙ ap (weakSymbols stringsAt) (at .1 ∙ begins-second (p ++ n) ((p ++ w) ∷ []))) (at-put-weak-symbols .put-weak-symbols .ensures) in
+    (one (at-write .write .ensures) ⊕ one (at-write2 .write2 .ensures) ⊕ behind-parts (symbols-weak stringsAt aliasAt) (at-stop .stop .ensures) (table-part (at-put-weak-table .put-weak-table .ensures .0)) symbols) .wrote
 
 pub put-weak-external-spec : {M : Type 1} → statement M
 put-weak-external-spec =

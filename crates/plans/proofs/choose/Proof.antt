@@ -17,29 +17,32 @@ returns c = choose-noname _ _ _ _ _ (sym (c .before .is-noname .ensures) ∙ c .
 returns-2 : tie.Need-returns-2
 unfolding choiceOf sourceOf
 returns-2 c =
-    let c₃ = c .before .before .before in
-    choose-as _ _ _ _ _ (sym (c₃ .is-noname .ensures) ∙ c .before .before .if1 .left) (sym (c .before .absent .ensures) ∙ not-true _ (c .if2 .taken))
+    let at-if1 = c .before .before in
+    let at-is-noname = at-if1 .before in
+    choose-as _ _ _ _ _ (sym (at-is-noname .is-noname .ensures) ∙ at-if1 .if1 .left) (sym (c .before .absent .ensures) ∙ not-true _ (c .if2 .taken))
 
 returns-3 : tie.Need-returns-3
 returns-3 c =
-    let c₃ = c .before .before .before in
-    let c₄ = c₃ .before in
-    let c₅ = c₄ .before in
-    let c₆ = c₅ .before in
-    let c₇ = c₆ .before in
-    let i = import-there _ _ _ (sym (c₃ .absent2 .ensures) ∙ not-true _ (c .before .before .if3 .taken)) (c .before .string .ensures) in c
-    .choose-import .ensures _ i ∙ choose-imported _ _ _ _ _ (sym (c₇ .is-noname .ensures) ∙ c₆ .if1 .left) _
-    (sym (c₅ .absent .ensures) ∙ not-false _ (c₄ .if2 .left)) i
+    let at-if3 = c .before .before in
+    let at-absent2 = at-if3 .before in
+    let at-if2 = at-absent2 .before in
+    let at-absent = at-if2 .before in
+    let at-if1 = at-absent .before in
+    let at-is-noname = at-if1 .before in
+    let i = import-there _ _ _ (sym (at-absent2 .absent2 .ensures) ∙ not-true _ (at-if3 .if3 .taken)) (c .before .string .ensures) in c
+    .choose-import .ensures _ i ∙ choose-imported _ _ _ _ _ (sym (at-is-noname .is-noname .ensures) ∙ at-if1 .if1 .left) _
+    (sym (at-absent .absent .ensures) ∙ not-false _ (at-if2 .if2 .left)) i
 
 returns-4 : tie.Need-returns-4
 unfolding choiceOf sourceOf
 returns-4 c =
-    let c₃ = c .before .before .before in
-    let c₄ = c₃ .before in
-    let c₅ = c₄ .before in
-    let c₆ = c₅ .before in
-    ap (λ (t : ℕ). P.typed t []) (c .plain-type .ensures) ∙ choose-plain _ _ _ _ _ (sym (c₆ .is-noname .ensures) ∙ c₅ .if1 .left)
-    (sym (c₄ .absent .ensures) ∙ not-false _ (c₃ .if2 .left)) (sym (c .before .before .absent2 .ensures) ∙ not-false _ (c .before .if3 .left))
+    let at-absent2 = c .before .before in
+    let at-if2 = at-absent2 .before in
+    let at-absent = at-if2 .before in
+    let at-if1 = at-absent .before in
+    let at-is-noname = at-if1 .before in
+    ap (λ (t : ℕ). P.typed t []) (c .plain-type .ensures) ∙ choose-plain _ _ _ _ _ (sym (at-is-noname .is-noname .ensures) ∙ at-if1 .if1 .left)
+    (sym (at-absent .absent .ensures) ∙ not-false _ (at-if2 .if2 .left)) (sym (at-absent2 .absent2 .ensures) ∙ not-false _ (c .before .if3 .left))
 
 pub choose-spec : {M : Type 1} → statement M
 choose-spec =

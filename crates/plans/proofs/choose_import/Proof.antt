@@ -11,22 +11,26 @@ returns c = λ e i. c .choose-other .ensures e i ∙ import-other _ _ _ (c .befo
 
 returns-2 : tie.Need-returns-2
 unfolding choiceOf sourceOf
-returns-2 c = λ e i. import-3 _ _ _ (c .before .before .if1 .left) (sym (c .before .gives .ensures) ∙ c .if2 .taken)
+returns-2 c =
+    let at-if1 = c .before .before in
+    λ e i. import-3 _ _ _ (at-if1 .if1 .left) (sym (c .before .gives .ensures) ∙ c .if2 .taken)
 
 returns-3 : tie.Need-returns-3
 unfolding choiceOf sourceOf
 returns-3 c =
-    let c₃ = c .before .before .before in
-    let c₄ = c₃ .before in
-    λ e i. import-2 _ _ _ (c₄ .if1 .left) (sym (c₃ .gives .ensures) ∙ c .before .before .if2 .left) (sym (c .before .gives2 .ensures) ∙ c .if3 .taken)
+    let at-if2 = c .before .before in
+    let at-gives = at-if2 .before in
+    let at-if1 = at-gives .before in
+    λ e i. import-2 _ _ _ (at-if1 .if1 .left) (sym (at-gives .gives .ensures) ∙ at-if2 .if2 .left) (sym (c .before .gives2 .ensures) ∙ c .if3 .taken)
 
 returns-4 : tie.Need-returns-4
 returns-4 c =
-    let c₃ = c .before .before .before in
-    let c₄ = c₃ .before in
-    let c₅ = c₄ .before in
-    λ e i. c .choose-other2 .ensures e i ∙ import-neither _ _ _ (c₅ .if1 .left) (sym (c₄ .gives .ensures) ∙ c₃ .if2 .left)
-    (sym (c .before .before .gives2 .ensures) ∙ c .before .if3 .left)
+    let at-gives2 = c .before .before in
+    let at-if2 = at-gives2 .before in
+    let at-gives = at-if2 .before in
+    let at-if1 = at-gives .before in
+    λ e i. c .choose-other2 .ensures e i ∙ import-neither _ _ _ (at-if1 .if1 .left) (sym (at-gives .gives .ensures) ∙ at-if2 .if2 .left)
+    (sym (at-gives2 .gives2 .ensures) ∙ c .before .if3 .left)
 
 pub choose-import-spec : {M : Type 1} → statement M
 choose-import-spec =

@@ -12,11 +12,15 @@ returns c = λ e i. rw i (other-ec _ _ _ (c .if1 .taken))
 
 returns-2 : tie.Need-returns-2
 unfolding choiceOf sourceOf
-returns-2 c = λ e i. other-same _ _ _ (c .before .before .if1 .left) (sym (c .before .same .ensures) ∙ c .if2 .taken)
+returns-2 c =
+    let at-if1 = c .before .before in
+    λ e i. other-same _ _ _ (at-if1 .if1 .left) (sym (c .before .same .ensures) ∙ c .if2 .taken)
 
 returns-3 : tie.Need-returns-3
 unfolding choiceOf
-returns-3 c = λ e i. rw i (other-later _ _ _ (c .before .before .if1 .left) (sym (c .before .same .ensures) ∙ c .if2 .left))
+returns-3 c =
+    let at-if1 = c .before .before in
+    λ e i. rw i (other-later _ _ _ (at-if1 .if1 .left) (sym (c .before .same .ensures) ∙ c .if2 .left))
 
 pub choose-other-spec : {M : Type 1} → statement M
 choose-other-spec = tie.close

@@ -6,7 +6,9 @@ use Rattle.plans.proofs.gives.Statement.{statement}
 use Rattle.plans.proofs.gives.Tie as tie
 
 returns : tie.Need-returns
-returns c = gives-is _ _ _ _ (c .same .ensures) (c .before .part .ensures ∙ c .before .before .apply-name-type .ensures .bytes)
+returns c =
+    let at-apply-name-type = c .before .before in
+    gives-is _ _ _ _ (c .same .ensures) (c .before .part .ensures ∙ at-apply-name-type .apply-name-type .ensures .bytes)
 
 pub gives-spec : {M : Type 1} → statement M
 gives-spec = tie.close

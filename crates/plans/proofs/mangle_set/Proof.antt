@@ -9,15 +9,21 @@ use Rattle.plans.proofs.mangle_set.Tie as tie
 
 returns : tie.Need-returns
 unfolding shaped
-returns c = λ e. sym (mangled-prefix false _ _ _ (sym (c .before .before .get-arm64ec-mangled-function-name .ensures) ∙ c .enum-told .given .1))
+returns c =
+    let at-get-arm64ec-mangled-function-name = c .before .before in
+    λ e. sym (mangled-prefix false _ _ _ (sym (at-get-arm64ec-mangled-function-name .get-arm64ec-mangled-function-name .ensures) ∙ c .enum-told .given .1))
 
 returns-2 : tie.Need-returns-2
 unfolding shaped
-returns-2 c = λ e. sym (mangled-already false _ _ _ (sym (c .before .before .get-arm64ec-mangled-function-name .ensures) ∙ c .enum-told2 .given .1))
+returns-2 c =
+    let at-get-arm64ec-mangled-function-name = c .before .before in
+    λ e. sym (mangled-already false _ _ _ (sym (at-get-arm64ec-mangled-function-name .get-arm64ec-mangled-function-name .ensures) ∙ c .enum-told2 .given .1))
 
 returns-3 : tie.Need-returns-3
 unfolding shaped
-returns-3 c = λ e. sym (mangled-cannot false _ _ _ (sym (c .before .before .get-arm64ec-mangled-function-name .ensures) ∙ c .enum-told3 .given .1))
+returns-3 c =
+    let at-get-arm64ec-mangled-function-name = c .before .before in
+    λ e. sym (mangled-cannot false _ _ _ (sym (at-get-arm64ec-mangled-function-name .get-arm64ec-mangled-function-name .ensures) ∙ c .enum-told3 .given .1))
 
 pub mangle-set-spec : {M : Type 1} → statement M
 mangle-set-spec =

@@ -7,15 +7,17 @@ use Rattle.plans.proofs.plain_type.Tie as tie
 
 returns : tie.Need-returns
 returns c =
-    let c₃ = c .before .before .before in
-    plain-own _ _ _ _ (c .get-own-type .ensures) (c₃ .string .ensures) (sym (c .before .before .absent .ensures) ∙ c .before .if1 .taken)
+    let at-absent = c .before .before in
+    let at-string = at-absent .before in
+    plain-own _ _ _ _ (c .get-own-type .ensures) (at-string .string .ensures) (sym (at-absent .absent .ensures) ∙ c .before .if1 .taken)
 
 returns-2 : tie.Need-returns-2
 returns-2 c =
-    let c₃ = c .before .before .before in
-    let c₄ = c₃ .before in
-    plain-both _ _ _ _ (c .get-name-type .ensures) (c .before .string2 .ensures) (c₄ .string .ensures)
-    (sym (c₃ .absent .ensures) ∙ c .before .before .if1 .left)
+    let at-if1 = c .before .before in
+    let at-absent = at-if1 .before in
+    let at-string = at-absent .before in
+    plain-both _ _ _ _ (c .get-name-type .ensures) (c .before .string2 .ensures) (at-string .string .ensures)
+    (sym (at-absent .absent .ensures) ∙ at-if1 .if1 .left)
 
 pub plain-type-spec : {M : Type 1} → statement M
 plain-type-spec =

@@ -14,17 +14,19 @@ returns c = public-empty _ _ _ _ (c .if1 .taken)
 returns-2 : tie.Need-returns-2
 unfolding choiceOf
 returns-2 c =
-    let c₄ = c .before .before .before .before in
-    let c₅ = c₄ .before in
-    c .shape-typed .ensures ∙ ap (planChoice _ _ _) (ap (choiceOf _ _) (sym (c .before .before .name-type .given .1)) ∙ c₄ .choose .ensures) ∙
-    public-some _ _ _ _ (c₅ .if1 .left)
+    let at-name-type = c .before .before in
+    let at-choose = at-name-type .before .before in
+    let at-if1 = at-choose .before in
+    c .shape-typed .ensures ∙ ap (planChoice _ _ _) (ap (choiceOf _ _) (sym (at-name-type .name-type .given .1)) ∙ at-choose .choose .ensures) ∙
+    public-some _ _ _ _ (at-if1 .if1 .left)
 
 returns-3 : tie.Need-returns-3
 unfolding choiceOf shaped planChoice
 returns-3 c =
-    let c₃ = c .before .before .before in
-    ap (planChoice _ _ _) (ap (choiceOf _ _) (sym (c .enum-told .given .1)) ∙ c .before .before .choose .ensures) ∙ public-some _ _ _ _
-    (c₃ .if1 .left)
+    let at-choose = c .before .before in
+    let at-if1 = at-choose .before in
+    ap (planChoice _ _ _) (ap (choiceOf _ _) (sym (c .enum-told .given .1)) ∙ at-choose .choose .ensures) ∙ public-some _ _ _ _
+    (at-if1 .if1 .left)
 
 pub plan-spec : {M : Type 1} → statement M
 plan-spec =

@@ -8,27 +8,30 @@ use Rattle.plans.proofs.shape_typed.Tie as tie
 
 returns : tie.Need-returns
 returns c =
-    let c₃ = c .before .before .before in
-    let c₄ = c₃ .before in
-    let c₅ = c₄ .before in
-    let c₆ = c₅ .before in
-    c .mangle-free .ensures _ _ _ ∙ mangled-by _ _ _ (sym (c .before .before .is-free .ensures) ∙ c .before .if3 .taken) ∙ plan-ec _ _ _ _ _
-    (c₆ .if1 .taken) (sym (c₅ .import-type .ensures) ∙ sym (c₄ .number .ensures) ∙ c₃ .if2 .taken)
+    let at-is-free = c .before .before in
+    let at-if2 = at-is-free .before in
+    let at-number = at-if2 .before in
+    let at-import-type = at-number .before in
+    let at-if1 = at-import-type .before in
+    c .mangle-free .ensures _ _ _ ∙ mangled-by _ _ _ (sym (at-is-free .is-free .ensures) ∙ c .before .if3 .taken) ∙ plan-ec _ _ _ _ _
+    (at-if1 .if1 .taken) (sym (at-import-type .import-type .ensures) ∙ sym (at-number .number .ensures) ∙ at-if2 .if2 .taken)
 
 returns-2 : tie.Need-returns-2
 returns-2 c =
-    let c₃ = c .before .before .before in
-    let c₄ = c₃ .before in
-    let c₅ = c₄ .before in
-    let c₆ = c₅ .before in
-    c .mangle-set .ensures _ ∙ mangled-by _ _ _ (sym (c .before .before .is-free .ensures) ∙ c .before .if3 .left) ∙ plan-ec _ _ _ _ _
-    (c₆ .if1 .taken) (sym (c₅ .import-type .ensures) ∙ sym (c₄ .number .ensures) ∙ c₃ .if2 .taken)
+    let at-is-free = c .before .before in
+    let at-if2 = at-is-free .before in
+    let at-number = at-if2 .before in
+    let at-import-type = at-number .before in
+    let at-if1 = at-import-type .before in
+    c .mangle-set .ensures _ ∙ mangled-by _ _ _ (sym (at-is-free .is-free .ensures) ∙ c .before .if3 .left) ∙ plan-ec _ _ _ _ _
+    (at-if1 .if1 .taken) (sym (at-import-type .import-type .ensures) ∙ sym (at-number .number .ensures) ∙ at-if2 .if2 .taken)
 
 returns-3 : tie.Need-returns-3
 unfolding shaped
 returns-3 c =
-    let c₃ = c .before .before .before in
-    plan-data _ _ _ _ _ (c₃ .if1 .taken) (λ k. c .if2 .left (c .before .number .ensures ∙ c .before .before .import-type .ensures ∙ k))
+    let at-import-type = c .before .before in
+    let at-if1 = at-import-type .before in
+    plan-data _ _ _ _ _ (at-if1 .if1 .taken) (λ k. c .if2 .left (c .before .number .ensures ∙ at-import-type .import-type .ensures ∙ k))
 
 returns-4 : tie.Need-returns-4
 unfolding shaped

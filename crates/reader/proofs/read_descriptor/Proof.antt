@@ -18,33 +18,39 @@ admits-dll-requires c κs = clear-as _ _ (c .text .ensures)
 
 returns : tie.Need-returns
 returns c =
-    let c₄ = c .before .before .before .before in
-    let p = c₄ .pre in barred _ _
-    (descriptor-barred _ (ap ordinary (sym (p .1)) ∙ p .0 .ordinary) (c .before .before .text .ensures) (sym (c .before .admits-dll .ensures) ∙ not-true _ (c .if1 .taken)))
+    let at-text = c .before .before in
+    let start = at-text .before .before in
+    let p = start .pre in barred _ _
+    (descriptor-barred _ (ap ordinary (sym (p .1)) ∙ p .0 .ordinary) (at-text .text .ensures) (sym (c .before .admits-dll .ensures) ∙ not-true _ (c .if1 .taken)))
 
 part-requires : tie.Need-part-requires
-part-requires c κs = omega (arith, c .stem .ensures .size, stem-short (c .before .before .before .text .result .now))
+part-requires c κs =
+    let at-text = c .before .before .before in
+    omega (arith, c .stem .ensures .size, stem-short (at-text .text .result .now))
 
 descriptor-size-requires : tie.Need-descriptor-size-requires
 descriptor-size-requires c κs =
-    let d = c .before .before .before .before .text .result .now in
-    let admitted = sym (c .before .before .before .admits-dll .ensures) ∙ not-false _ (c .before .before .if1 .left) in
+    let at-if1 = c .before .before in
+    let at-admits-dll = at-if1 .before in
+    let at-text = at-admits-dll .before in
+    let d = at-text .text .result .now in
+    let admitted = sym (at-admits-dll .admits-dll .ensures) ∙ not-false _ (at-if1 .if1 .left) in
     (dll-most 255 d admitted (omega arith), stem-part (c .part .ensures) (c .before .stem .ensures))
 
 as-descriptor-requires : tie.Need-as-descriptor-requires
 as-descriptor-requires c κs =
-    let c₃ = c .before .before .before in
-    let c₄ = c₃ .before in
-    let c₆ = c₄ .before .before in
-    let s = c₆ .before in
-    (s .pre .0, (sym (c₄ .admits-dll .ensures) ∙ not-false _ (c₃ .if1 .left), stem-part (c .before .part .ensures) (c .before .before .stem .ensures)))
+    let at-stem = c .before .before in
+    let at-if1 = at-stem .before in
+    let at-admits-dll = at-if1 .before in
+    let start = at-admits-dll .before .before .before in
+    (start .pre .0, (sym (at-admits-dll .admits-dll .ensures) ∙ not-false _ (at-if1 .if1 .left), stem-part (c .before .part .ensures) (at-stem .stem .ensures)))
 
 returns-2 : tie.Need-returns-2
 returns-2 c =
-    let c₆ = c .before .before .before .before .before .before in
-    let c₇ = c₆ .before in
-    let s = c₇ .before in c .as-descriptor .ensures ∙ ap (answer (s .args .b .now))
-    (descriptor-guessed _ (s .pre .1) (c₆ .text .ensures) (c .before .descriptor-size .ensures _) refl)
+    let at-text = c .before .before .before .before .before .before in
+    let start = at-text .before .before in
+    let s = start in c .as-descriptor .ensures ∙ ap (answer (s .args .b .now))
+    (descriptor-guessed _ (s .pre .1) (at-text .text .ensures) (c .before .descriptor-size .ensures _) refl)
 
 pub read-descriptor-spec : {M : Type 1} → statement M
 read-descriptor-spec =

@@ -12,32 +12,34 @@ use Rattle.reader.proofs.read_null_descriptor.Tie as tie
 
 returns : tie.Need-returns
 returns c =
-    let c₄ = c .before .before .before .before in
-    let c₅ = c₄ .before in
-    let s = c₅ .before in c .as-null-descriptor .ensures ∙ ap (answer (s .args .b .now))
-    (null-plain-guessed _ (s .pre .1) (c₄ .text .ensures) (sym (c .before .before .same .ensures) ∙ c .before .if1 .taken))
+    let at-same = c .before .before in
+    let at-text = at-same .before .before in
+    let start = at-text .before .before in
+    let s = start in c .as-null-descriptor .ensures ∙ ap (answer (s .args .b .now))
+    (null-plain-guessed _ (s .pre .1) (at-text .text .ensures) (sym (at-same .same .ensures) ∙ c .before .if1 .taken))
 
 returns-2 : tie.Need-returns-2
 returns-2 c =
-    let c₄ = c .before .before .before .before in
-    let c₆ = c₄ .before .before in
-    let p = c₆ .pre in null-barred _ (p .0 .ordinary) (p .1) (c₄ .text .ensures) (sym (c .before .before .same .ensures) ∙ c .before .if1 .left)
+    let at-same = c .before .before in
+    let at-text = at-same .before .before in
+    let start = at-text .before .before in
+    let p = start .pre in null-barred _ (p .0 .ordinary) (p .1) (at-text .text .ensures) (sym (at-same .same .ensures) ∙ c .before .if1 .left)
     (omega arith)
 
 as-null-descriptor-of-requires : tie.Need-as-null-descriptor-of-requires
 as-null-descriptor-of-requires c κs =
-    let c₅ = c .before .before .before .before .before in
-    let c₇ = c₅ .before .before in
-    (c₇ .pre .0, ap (holds 0) (c .part .ensures) ∙ holds-inside 0 _ _ _ (clear-as _ _ (c₅ .text .ensures)))
+    let at-text = c .before .before .before .before .before in
+    let start = at-text .before .before in
+    (start .pre .0, ap (holds 0) (c .part .ensures) ∙ holds-inside 0 _ _ _ (clear-as _ _ (at-text .text .ensures)))
 
 returns-3 : tie.Need-returns-3
 returns-3 c =
-    let c₃ = c .before .before .before in
-    let c₄ = c₃ .before in
-    let c₆ = c₄ .before .before in
-    let c₇ = c₆ .before in
-    let s = c₇ .before in c .as-null-descriptor-of .ensures ∙ ap (answer (s .args .b .now))
-    (null-of-guessed _ (s .pre .1) (c₆ .text .ensures) (sym (c₄ .same .ensures) ∙ c₃ .if1 .left) (c .before .part .ensures ∙ part-rest _ 25 (omega arith)))
+    let at-if1 = c .before .before .before in
+    let at-same = at-if1 .before in
+    let at-text = at-same .before .before in
+    let start = at-text .before .before in
+    let s = start in c .as-null-descriptor-of .ensures ∙ ap (answer (s .args .b .now))
+    (null-of-guessed _ (s .pre .1) (at-text .text .ensures) (sym (at-same .same .ensures) ∙ at-if1 .if1 .left) (c .before .part .ensures ∙ part-rest _ 25 (omega arith)))
 
 pub read-null-descriptor-spec : {M : Type 1} → statement M
 read-null-descriptor-spec =

@@ -12,21 +12,24 @@ use Rattle.reader.proofs.read_null_thunk.Tie as tie
 
 returns : tie.Need-returns
 returns c =
-    let p = c .before .before .before .before .pre in
-    thunk-barred _ (p .0 .ordinary) (p .1) (c .before .before .thunk-strings-at .ensures .0) (c .before .text .ensures) (omega arith)
+    let at-thunk-strings-at = c .before .before in
+    let start = at-thunk-strings-at .before .before in
+    let p = start .pre in
+    thunk-barred _ (p .0 .ordinary) (p .1) (at-thunk-strings-at .thunk-strings-at .ensures .0) (c .before .text .ensures) (omega arith)
 
 as-null-thunk-requires : tie.Need-as-null-thunk-requires
 as-null-thunk-requires c κs =
-    let c₅ = c .before .before .before .before .before in
-    (c₅ .pre .0, ap (holds 0) (c .part .ensures) ∙ holds-inside 0 _ _ _ (clear-as _ _ (c .before .before .text .ensures)))
+    let at-text = c .before .before in
+    let start = at-text .before .before .before in
+    (start .pre .0, ap (holds 0) (c .part .ensures) ∙ holds-inside 0 _ _ _ (clear-as _ _ (at-text .text .ensures)))
 
 returns-2 : tie.Need-returns-2
 returns-2 c =
-    let c₃ = c .before .before .before in
-    let c₄ = c₃ .before in
-    let c₅ = c₄ .before in
-    let s = c₅ .before in c .as-null-thunk .ensures ∙ ap (answer (s .args .b .now))
-    (thunk-guessed _ (s .pre .1) (c₄ .thunk-strings-at .ensures .0) (c₃ .text .ensures) (c .before .part .ensures))
+    let at-text = c .before .before .before in
+    let at-thunk-strings-at = at-text .before in
+    let start = at-thunk-strings-at .before .before in
+    let s = start in c .as-null-thunk .ensures ∙ ap (answer (s .args .b .now))
+    (thunk-guessed _ (s .pre .1) (at-thunk-strings-at .thunk-strings-at .ensures .0) (at-text .text .ensures) (c .before .part .ensures))
 
 pub read-null-thunk-spec : {M : Type 1} → statement M
 read-null-thunk-spec =

@@ -13,43 +13,56 @@ use Rattle.reader.proofs.read_short.Statement.{statement}
 use Rattle.reader.proofs.read_short.Tie as tie
 
 returns : tie.Need-returns
-returns c = barred _ _ (short-types-barred _ (c .before .before .read .ensures) (sym (c .before .admits-types .ensures) ∙ not-true _ (c .if1 .taken)))
+returns c =
+    let at-read = c .before .before in
+    barred _ _ (short-types-barred _ (at-read .read .ensures) (sym (c .before .admits-types .ensures) ∙ not-true _ (c .if1 .taken)))
 
 add-text-2 : tie.Need-add-text-2
 add-text-2 c =
-    let b = c .before .before .before .before .before .before .before .args .b .now in
-    let s = c .before .before .text in
+    let at-text = c .before .before in
+    let start = at-text .before .before .before .before .before in
+    let b = start .args .b .now in
+    let s = at-text .text in
     let d = c .before .text2 in
     omega (arith, ap length (s .ensures), ap length (d .ensures), length-text b 20, length-text b (20 + (length (s .result .now) + 1)))
 
 as-short-as-requires : tie.Need-as-short-as-requires
-as-short-as-requires c κs = (
-  sym (c .before .before .before .before .before .admits-types .ensures) ∙ not-false _ (c .before .before .before .before .if1 .left),
-  (c .before .if2 .taken, (c .before .before .before .text .ensures, (c .before .before .text2 .ensures, c .text3 .ensures))),
-)
+as-short-as-requires c κs =
+    let at-text2 = c .before .before in
+    let at-text = at-text2 .before in
+    let at-if1 = at-text .before in
+    let at-admits-types = at-if1 .before in (
+      sym (at-admits-types .admits-types .ensures) ∙ not-false _ (at-if1 .if1 .left),
+      (c .before .if2 .taken, (at-text .text .ensures, (at-text2 .text2 .ensures, c .text3 .ensures))),
+    )
 
 returns-2 : tie.Need-returns-2
 returns-2 c =
-    let c₃ = c .before .before .before in
-    let c₄ = c₃ .before in
-    let c₇ = c₄ .before .before .before in
-    let c₈ = c₇ .before in
-    let s = c₈ .before in c .as-short-as .ensures ∙ ap (answer (s .args .b .now))
-    (short-as-guessed _ (c₇ .read .ensures) (c₄ .text .ensures) (c₃ .text2 .ensures) (c .before .text3 .ensures) (c .before .before .if2 .taken))
+    let at-if2 = c .before .before in
+    let at-text2 = at-if2 .before in
+    let at-text = at-text2 .before in
+    let at-read = at-text .before .before .before in
+    let start = at-read .before .before in
+    let s = start in c .as-short-as .ensures ∙ ap (answer (s .args .b .now))
+    (short-as-guessed _ (at-read .read .ensures) (at-text .text .ensures) (at-text2 .text2 .ensures) (c .before .text3 .ensures) (at-if2 .if2 .taken))
 
 as-short-requires : tie.Need-as-short-requires
-as-short-requires c κs = (
-  sym (c .before .before .before .before .admits-types .ensures) ∙ not-false _ (c .before .before .before .if1 .left),
-  (c .if2 .left, (c .before .before .text .ensures, c .before .text2 .ensures)),
-)
+as-short-requires c κs =
+    let at-text = c .before .before in
+    let at-if1 = at-text .before in
+    let at-admits-types = at-if1 .before in (
+      sym (at-admits-types .admits-types .ensures) ∙ not-false _ (at-if1 .if1 .left),
+      (c .if2 .left, (at-text .text .ensures, c .before .text2 .ensures)),
+    )
 
 returns-3 : tie.Need-returns-3
 returns-3 c =
-    let c₃ = c .before .before .before in
-    let c₆ = c₃ .before .before .before in
-    let c₇ = c₆ .before in
-    let s = c₇ .before in c .as-short .ensures ∙ ap (answer (s .args .b .now))
-    (short-plain-guessed _ (c₆ .read .ensures) (c₃ .text .ensures) (c .before .before .text2 .ensures) (c .before .if2 .left))
+    let at-text2 = c .before .before in
+    let at-text = at-text2 .before in
+    let at-read = at-text .before .before .before in
+    let start = at-read .before .before in
+    let s = start in c .as-short .ensures ∙ ap (answer (s .args .b .now))
+    (short-plain-guessed _ (at-read .read .ensures) (at-text .text .ensures) (at-text2 .text2 .ensures) (c .before .if2 .left))
 
 pub read-short-spec : {M : Type 1} → statement M
 read-short-spec =

@@ -11,21 +11,27 @@ use Rattle.reader.proofs.read_weak.Statement.{statement}
 use Rattle.reader.proofs.read_weak.Tie as tie
 
 returns : tie.Need-returns
-returns c = unlike _ _ (weak-long (c .before .before .args .b .now) (c .if1 .taken))
+returns c =
+    let start = c .before .before in
+    unlike _ _ (weak-long (start .args .b .now) (c .if1 .taken))
 
 returns-2 : tie.Need-returns-2
 returns-2 c =
-    let b = c .before .before .before .before .before .before .args .b .now in
-    let c₁ = c .before .before .before in
-    unlike _ _ (λ e. c .if2 .taken (ap (λ (s : Symbol). ofZ w16 (s .«section_number»)) (c₁ .read .ensures) ∙ ap (ofZ w16) (weak-absolute b e)))
+    let at-read = c .before .before .before in
+    let start = at-read .before .before .before in
+    let b = start .args .b .now in
+    unlike _ _ (λ e. c .if2 .taken (ap (λ (s : Symbol). ofZ w16 (s .«section_number»)) (at-read .read .ensures) ∙ ap (ofZ w16) (weak-absolute b e)))
 
 as-weak-requires : tie.Need-as-weak-requires
-as-weak-requires c κs = (c .before .before .before .before .before .before .before .before .pre .0 .ordinary, (c .before .text .ensures, c .text2 .ensures))
+as-weak-requires c κs =
+    let start = c .before .before .before .before .before .before .before .before in
+    (start .pre .0 .ordinary, (c .before .text .ensures, c .text2 .ensures))
 
 returns-3 : tie.Need-returns-3
 returns-3 c =
-    let s = c .before .before .before .before .before .before .before .before .before in
-    c .as-weak .ensures ∙ ap (answer (s .args .b .now)) (weak-guessed _ (s .pre .1) (c .before .before .text .ensures) (c .before .text2 .ensures))
+    let at-text = c .before .before in
+    let start = at-text .before .before .before .before .before .before .before in
+    c .as-weak .ensures ∙ ap (answer (start .args .b .now)) (weak-guessed _ (start .pre .1) (at-text .text .ensures) (c .before .text2 .ensures))
 
 pub read-weak-spec : {M : Type 1} → statement M
 read-weak-spec =

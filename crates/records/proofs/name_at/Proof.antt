@@ -7,8 +7,8 @@ use Rattle.records.proofs.name_at.Tie as tie
 
 returns : tie.Need-returns
 returns c =
-    let s = c .before .before .before .before .before .before .before .before in
-    rw add-zero at (cells-part 8 (s .args .b .now) (s .args .at) (s .pre))
+    let start = c .before .before .before .before .before .before .before .before in
+    rw add-zero at (cells-part 8 (start .args .b .now) (start .args .at) (start .pre))
 
 pub name-at-spec : {M : Type 1} → statement M
 name-at-spec =

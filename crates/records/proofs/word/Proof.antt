@@ -6,13 +6,11 @@ use Rattle.records.proofs.word.Tie as tie
 
 cast-result : tie.Need-cast-result
 cast-result c =
-    let s = c .before in
-    rw (word-below (s .args .n) (s .fits .n) (c .if1 .taken) .0) (tt, omega (arith, s .fits .n .sfits))
+    rw (word-below (c .before .args .n) (c .before .fits .n) (c .if1 .taken) .0) (tt, omega (arith, c .before .fits .n .sfits))
 
 sub-result : tie.Need-sub-result
 sub-result c =
-    let s = c .before in
-    rw (word-below (s .args .n) (s .fits .n) (c .if1 .taken) .0) (omega (arith, s .fits .n .sfits))
+    rw (word-below (c .before .args .n) (c .before .fits .n) (c .if1 .taken) .0) (omega (arith, c .before .fits .n .sfits))
 
 returns : tie.Need-returns
 returns c =
@@ -21,8 +19,7 @@ returns c =
 
 cast-result-2 : tie.Need-cast-result-2
 cast-result-2 c =
-    let s = c .before in
-    rw (word-above (s .args .n) (s .fits .n) (c .if1 .left)) (tt, omega (arith, word-small (s .args .n) (s .fits .n)))
+    rw (word-above (c .before .args .n) (c .before .fits .n) (c .if1 .left)) (tt, omega (arith, word-small (c .before .args .n) (c .before .fits .n)))
 
 returns-2 : tie.Need-returns-2
 returns-2 c = rw (word-above (c .before .args .n) (c .before .fits .n) (c .if1 .left))

@@ -37,8 +37,10 @@ skip-requires c κs = c .search .inv .0
 
 returns-2 : tie.Need-returns-2 Inv-loop μ-loop Inv-search μ-search
 returns-2 c =
-    let at = c .before .before .search in
-    let a = c .before .before .before .before .before .before .before .args in
+    let at-search = c .before .before in
+    let start = at-search .before .before .before .before .before in
+    let at = at-search .search in
+    let a = start .args in
     let from = skipped (a .pattern .now) (a .text .now) (at .i) (c .before .skip .result) (omega arith) (at .inv .0) (c .before .skip .ensures .0) (at .inv .1) in
     sym (ap placeOf (sym from ∙ find-short _ _ (c .before .skip .result) (c .before .skip .ensures .1) (omega (arith, c .before .skip .ensures .1))))
 
@@ -47,30 +49,35 @@ loop-holds c = (search needs, refl)
 
 loop-again : tie.Need-loop-again Inv-loop μ-loop Inv-search μ-search
 loop-again c =
-    let b = c .before .before .before .before in
-    let k = b .before .before .skip .result in
-    let a = b .before .before .before .before .before .before .before .before .args in
-    (omega arith, b .loop .inv .1 ∙ agree-later (a .pattern .now) (a .text .now) k (b .loop .j) (omega arith) (omega arith) (c .if4 .left))
+    let at-loop = c .before .before .before .before in
+    let at-skip = at-loop .before .before in
+    let start = at-skip .before .before .before .before .before .before in
+    let k = at-skip .skip .result in
+    let a = start .args in
+    (omega arith, at-loop .loop .inv .1 ∙ agree-later (a .pattern .now) (a .text .now) k (at-loop .loop .j) (omega arith) (omega arith) (c .if4 .left))
 
 search-again : tie.Need-search-again Inv-loop μ-loop Inv-search μ-search
 search-again c =
-    let b = c .before .before .before .before in
-    let s = b .before .before in
-    let at = s .before .search in
-    let a = s .before .before .before .before .before .before .args in
-    let from = skipped (a .pattern .now) (a .text .now) (at .i) (s .skip .result) (omega arith) (at .inv .0) (s .skip .ensures .0) (at .inv .1) in
-    let no = b .loop .inv .1 ∙ agree-stop (a .pattern .now) (a .text .now) (s .skip .result) (b .loop .j) (omega arith) (omega arith) (c .if4 .taken) in
-    (omega arith, sym (find-later _ _ (s .skip .result) (s .skip .ensures .1) no) ∙ from)
+    let at-loop = c .before .before .before .before in
+    let at-skip = at-loop .before .before in
+    let at-search = at-skip .before in
+    let start = at-search .before .before .before .before .before in
+    let at = at-search .search in
+    let a = start .args in
+    let from = skipped (a .pattern .now) (a .text .now) (at .i) (at-skip .skip .result) (omega arith) (at .inv .0) (at-skip .skip .ensures .0) (at .inv .1) in
+    let no = at-loop .loop .inv .1 ∙ agree-stop (a .pattern .now) (a .text .now) (at-skip .skip .result) (at-loop .loop .j) (omega arith) (omega arith) (c .if4 .taken) in
+    (omega arith, sym (find-later _ _ (at-skip .skip .result) (at-skip .skip .ensures .1) no) ∙ from)
 
 returns-3 : tie.Need-returns-3 Inv-loop μ-loop Inv-search μ-search
 returns-3 c =
-    let b = c .before in
-    let s = b .before .before in
-    let at = s .before .search in
-    let a = s .before .before .before .before .before .before .args in
-    let from = skipped (a .pattern .now) (a .text .now) (at .i) (s .skip .result) (omega arith) (at .inv .0) (s .skip .ensures .0) (at .inv .1) in
-    let yes = b .loop .inv .1 ∙ agree-end (a .pattern .now) (a .text .now) (s .skip .result) (b .loop .j) (omega arith) in
-    sym (ap placeOf (sym from ∙ find-here _ _ (s .skip .result) (s .skip .ensures .1) yes))
+    let at-skip = c .before .before .before in
+    let at-search = at-skip .before in
+    let start = at-search .before .before .before .before .before in
+    let at = at-search .search in
+    let a = start .args in
+    let from = skipped (a .pattern .now) (a .text .now) (at .i) (at-skip .skip .result) (omega arith) (at .inv .0) (at-skip .skip .ensures .0) (at .inv .1) in
+    let yes = c .before .loop .inv .1 ∙ agree-end (a .pattern .now) (a .text .now) (at-skip .skip .result) (c .before .loop .j) (omega arith) in
+    sym (ap placeOf (sym from ∙ find-here _ _ (at-skip .skip .result) (at-skip .skip .ensures .1) yes))
 
 pub find-spec : {M : Type 1} → statement M
 find-spec =

@@ -18,10 +18,14 @@ same-words-requires : tie.Need-same-words-requires
 same-words-requires c κs = (ap length (c .part .ensures) ∙ length-part _ _ _ (omega arith), search needs)
 
 returns-3 : tie.Need-returns-3
-returns-3 c = found-same _ _ _ _ refl (omega arith) (c .before .before .part .ensures) (sym (c .before .same-words .ensures) ∙ c .if3 .taken)
+returns-3 c =
+    let at-part = c .before .before in
+    found-same _ _ _ _ refl (omega arith) (at-part .part .ensures) (sym (c .before .same-words .ensures) ∙ c .if3 .taken)
 
 returns-4 : tie.Need-returns-4
-returns-4 c = found-differ _ _ _ _ refl (c .before .before .part .ensures) (sym (c .before .same-words .ensures) ∙ c .if3 .left)
+returns-4 c =
+    let at-part = c .before .before in
+    found-differ _ _ _ _ refl (at-part .part .ensures) (sym (c .before .same-words .ensures) ∙ c .if3 .left)
 
 pub find-words-spec : {M : Type 1} → statement M
 find-words-spec =

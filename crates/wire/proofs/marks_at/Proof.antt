@@ -21,13 +21,15 @@ mul-bits : tie.Need-mul-bits Inv-loop μ-loop
 mul-bits c = omega (arith, marks-below _ _ _ _ (omega arith) (c .before .loop .inv .1))
 
 add-bits : tie.Need-add-bits Inv-loop μ-loop
-add-bits c = omega (arith, marks-below _ _ _ _ (omega arith) (c .before .before .before .loop .inv .1))
+add-bits c =
+    let at-loop = c .before .before .before in
+    omega (arith, marks-below _ _ _ _ (omega arith) (at-loop .loop .inv .1))
 
 loop-again : tie.Need-loop-again Inv-loop μ-loop
 loop-again c =
-    let l = c .before .before .before in
-    let s = l .before .before in
-    (search needs, ap (λ (b : ℕ). 2 * l .loop .bits + b) (c .mark .ensures .0) ∙ marks-step (s .args .c) (s .args .s .now) (s .args .at) (s .args .n) (l .loop .k) (omega arith) (omega arith) (omega arith) (l .loop .inv .1))
+    let at-loop = c .before .before .before in
+    let start = at-loop .before .before in
+    (search needs, ap (λ (b : ℕ). 2 * at-loop .loop .bits + b) (c .mark .ensures .0) ∙ marks-step (start .args .c) (start .args .s .now) (start .args .at) (start .args .n) (at-loop .loop .k) (omega arith) (omega arith) (omega arith) (at-loop .loop .inv .1))
 
 returns : tie.Need-returns Inv-loop μ-loop
 returns c = marks-all _ _ _ _ (c .before .loop .k) (omega arith) (c .before .loop .inv .1)

@@ -18,18 +18,20 @@ loop-holds : tie.Need-loop-holds Inv-loop μ-loop
 loop-holds c = (search needs, refl)
 
 returns : tie.Need-returns Inv-loop μ-loop
-returns c = sym (same-word-differ _ _ _ (λ e. c .if1 .taken (c .before .before .u32-at .ensures ∙ e ∙ sym (c .before .u32-at2 .ensures))))
+returns c =
+    let at-u32-at = c .before .before in
+    sym (same-word-differ _ _ _ (λ e. c .if1 .taken (at-u32-at .u32-at .ensures ∙ e ∙ sym (c .before .u32-at2 .ensures))))
 
 loop-again : tie.Need-loop-again Inv-loop μ-loop
 loop-again c =
-    let second = c .before in
-    let first = second .before in
-    let l = first .before .before in
-    let k = l .before in
-    let o = octets _ (k .before .shared-slice-known .given) in
-    let p = octets _ (k .shared-slice-known2 .given) in
-    let e = sym (first .u32-at .ensures) ∙ c .if1 .left ∙ second .u32-at2 .ensures in
-    (search needs, same-word _ _ (l .loop .i) o p (omega arith) (omega arith) e (l .loop .inv .1))
+    let at-u32-at = c .before .before in
+    let at-loop = at-u32-at .before .before in
+    let at-shared-slice-known2 = at-loop .before in
+    let at-shared-slice-known = at-shared-slice-known2 .before in
+    let o = octets _ (at-shared-slice-known .shared-slice-known .given) in
+    let p = octets _ (at-shared-slice-known2 .shared-slice-known2 .given) in
+    let e = sym (at-u32-at .u32-at .ensures) ∙ c .if1 .left ∙ c .before .u32-at2 .ensures in
+    (search needs, same-word _ _ (at-loop .loop .i) o p (omega arith) (omega arith) e (at-loop .loop .inv .1))
 
 returns-2 : tie.Need-returns-2 Inv-loop μ-loop
 returns-2 c = sym (same-all _ _ (c .before .loop .i) (omega arith) (omega arith) (c .before .loop .inv .1))

@@ -21,12 +21,14 @@ loop-holds c = (search needs, look-table (c .args .number))
 
 returns : tie.Need-returns Inv-loop μ-loop
 returns c =
-    let at = c .before .before .before .before .loop in
+    let at-loop = c .before .before .before .before in
+    let at = at-loop .loop in
     look-here _ table (row 0 0 false) (at .i) (search needs) (c .if1 .taken) ∙ at .inv .1
 
 loop-again : tie.Need-loop-again Inv-loop μ-loop
 loop-again c =
-    let at = c .before .before .before .before .loop in
+    let at-loop = c .before .before .before .before in
+    let at = at-loop .loop in
     (omega arith, look-later _ table (row 0 0 false) (at .i) (search needs) (c .if1 .left) ∙ at .inv .1)
 
 returns-2 : tie.Need-returns-2 Inv-loop μ-loop

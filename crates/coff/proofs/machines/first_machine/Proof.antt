@@ -7,11 +7,13 @@ use Rattle.coff.proofs.machines.first_machine.Tie as tie
 
 returns : tie.Need-returns
 returns c =
-    let t = c .before in
-    (first-hybrid _ (sym (t .before .is-arm64ec .ensures) ∙ t .if1 .taken), arm64ec-machine)
+    let at-is-arm64ec = c .before .before in
+    (first-hybrid _ (sym (at-is-arm64ec .is-arm64ec .ensures) ∙ c .before .if1 .taken), arm64ec-machine)
 
 returns-2 : tie.Need-returns-2
-returns-2 c = (first-other _ (sym (c .before .is-arm64ec .ensures) ∙ c .if1 .left), c .before .before .pre)
+returns-2 c =
+    let start = c .before .before in
+    (first-other _ (sym (c .before .is-arm64ec .ensures) ∙ c .if1 .left), start .pre)
 
 pub first-machine-spec : {M : Type 1} → statement M
 first-machine-spec = tie.close

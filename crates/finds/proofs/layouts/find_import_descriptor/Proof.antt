@@ -9,11 +9,10 @@ use Rattle.finds.proofs.layouts.find_import_descriptor.Tie as tie
 
 returns : tie.Need-returns
 returns c =
-    let c₂ = c .before in
-    let c₁ = c₂ .before .before .before in
-    let s = c₁ .before .before .before .before .before in
-    let a = s .args in
-    found-as (c₂ .part .ensures ∙ drawn-whole (c₁ .create-import-descriptor .ensures) (bound-descriptor (a .machine .number) (a .dll .now) (a .compat) (s .pre .1 .0))) (c .find .ensures)
+    let at-create-import-descriptor = c .before .before .before .before in
+    let start = at-create-import-descriptor .before .before .before .before .before in
+    let a = start .args in
+    found-as (c .before .part .ensures ∙ drawn-whole (at-create-import-descriptor .create-import-descriptor .ensures) (bound-descriptor (a .machine .number) (a .dll .now) (a .compat) (start .pre .1 .0))) (c .find .ensures)
 
 pub find-import-descriptor-spec : {M : Type 1} → statement M
 find-import-descriptor-spec =

@@ -9,11 +9,10 @@ use Rattle.finds.proofs.layouts.find_null_import_descriptor.Tie as tie
 
 returns : tie.Need-returns
 returns c =
-    let c₂ = c .before in
-    let c₁ = c₂ .before .before .before in
-    let s = c₁ .before .before .before .before in
-    let a = s .args in
-    found-as (c₂ .part .ensures ∙ drawn-whole (c₁ .create-null-import-descriptor .ensures) (bound-null (a .machine .number) (a .compat) (a .stem .now) (s .pre .1))) (c .find .ensures)
+    let at-create-null-import-descriptor = c .before .before .before .before in
+    let start = at-create-null-import-descriptor .before .before .before .before in
+    let a = start .args in
+    found-as (c .before .part .ensures ∙ drawn-whole (at-create-null-import-descriptor .create-null-import-descriptor .ensures) (bound-null (a .machine .number) (a .compat) (a .stem .now) (start .pre .1))) (c .find .ensures)
 
 pub find-null-import-descriptor-spec : {M : Type 1} → statement M
 find-null-import-descriptor-spec =

@@ -12,13 +12,13 @@ use Rattle.finds.proofs.layouts.find_short.Tie as tie
 
 returns : tie.Need-returns
 returns c =
-    let c₂ = c .before in
-    let c₁ = c₂ .before in
-    let a = c₁ .before .before .before .before .args in
+    let at-find = c .before .before in
+    let start = at-find .before .before .before .before in
+    let a = start .args in
     let s = a .symbol .now in
     let d = a .dll .now in
-    let h = found-as (ap (λ (n : ℕ). importHeader (a .machine) n (a .ordinal) (a .types)) (size-short s d)) (c₁ .find .ensures) in
-    h ⨟ found-as (sym (strings-append (s ∷ []) (d ∷ []))) (c₂ .find-text .ensures ⨟ c .find-text2 .ensures)
+    let h = found-as (ap (λ (n : ℕ). importHeader (a .machine) n (a .ordinal) (a .types)) (size-short s d)) (at-find .find .ensures) in
+    h ⨟ found-as (sym (strings-append (s ∷ []) (d ∷ []))) (c .before .find-text .ensures ⨟ c .find-text2 .ensures)
 
 pub find-short-spec : {M : Type 1} → statement M
 find-short-spec =

@@ -18,15 +18,15 @@ size s dll x = simp (length-strings-nil, length-strings-cons) (omega arith)
 
 returns : tie.Need-returns
 returns c =
-    let c₃ = c .before in
-    let c₂ = c₃ .before in
-    let c₁ = c₂ .before in
-    let a = c₁ .before .before .before .before .before .args in
+    let at-find-text = c .before .before in
+    let at-find = at-find-text .before in
+    let start = at-find .before .before .before .before .before in
+    let a = start .args in
     let s = a .symbol .now in
     let d = a .dll .now in
     let x = a .export .now in
-    let h = found-as (ap (λ (n : ℕ). importHeader (a .machine) n (a .ordinal) (a .types)) (size s d x)) (c₁ .find .ensures) in
-    h ⨟ found-as (sym (strings-append (s ∷ d ∷ []) (x ∷ []) ∙ ap (λ (l : Bytes). l ++ strings (x ∷ [])) (strings-append (s ∷ []) (d ∷ [])))) (c₂ .find-text .ensures ⨟ c₃ .find-text2 .ensures ⨟ c .find-text3 .ensures)
+    let h = found-as (ap (λ (n : ℕ). importHeader (a .machine) n (a .ordinal) (a .types)) (size s d x)) (at-find .find .ensures) in
+    h ⨟ found-as (sym (strings-append (s ∷ d ∷ []) (x ∷ []) ∙ ap (λ (l : Bytes). l ++ strings (x ∷ [])) (strings-append (s ∷ []) (d ∷ [])))) (at-find-text .find-text .ensures ⨟ c .before .find-text2 .ensures ⨟ c .find-text3 .ensures)
 
 pub find-short-as-spec : {M : Type 1} → statement M
 find-short-as-spec =

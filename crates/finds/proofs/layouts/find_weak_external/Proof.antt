@@ -14,15 +14,15 @@ use Rattle.finds.proofs.layouts.find_weak_external.Tie as tie
 
 returns : tie.Need-returns
 returns c =
-    let c₃ = c .before in
-    let c₂ = c₃ .before in
-    let c₁ = c₂ .before .before .before in
-    let a = c₁ .before .before .before .before .before .args in
+    let at-find = c .before .before in
+    let at-create-weak-external = at-find .before .before .before in
+    let start = at-create-weak-external .before .before .before .before .before in
+    let a = start .args in
     let t = a .target .now in
     let w = a .alias .now in
-    let head = drawn-head (c₁ .create-weak-external .ensures) (omega (arith, length-encode-weak (a .machine) t w)) in
-    after-head weakStringsAt head (drop-encode-weak (a .machine) t w ∙ strings-append (t ∷ []) (w ∷ [])) (c₂ .find .ensures)
-    (c₃ .find-text .ensures ⨟ c .find-text2 .ensures)
+    let head = drawn-head (at-create-weak-external .create-weak-external .ensures) (omega (arith, length-encode-weak (a .machine) t w)) in
+    after-head weakStringsAt head (drop-encode-weak (a .machine) t w ∙ strings-append (t ∷ []) (w ∷ [])) (at-find .find .ensures)
+    (c .before .find-text .ensures ⨟ c .find-text2 .ensures)
 
 pub find-weak-external-spec : {M : Type 1} → statement M
 find-weak-external-spec =

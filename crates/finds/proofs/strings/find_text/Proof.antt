@@ -12,15 +12,15 @@ use Rattle.finds.proofs.strings.find_text.Tie as tie
 
 add-find-zeros : tie.Need-add-find-zeros
 add-find-zeros c =
-    let s = c .before .before .before in
-    omega (arith, ap length (s .pre), length-text (s .args .s .now) (s .args .place))
+    let start = c .before .before .before in
+    omega (arith, ap length (start .pre), length-text (start .args .s .now) (start .args .place))
 
 returns : tie.Need-returns
 unfolding strings
 returns c =
-    let s = c .before .before .before .before in
-    let a = s .args in
-    text-found (a .s .now) (a .at) (s .pre ∙ ap (textAt (a .s .now)) (sym (c .before .if1 .taken))) ⨟ c .find-zeros .ensures
+    let start = c .before .before .before .before in
+    let a = start .args in
+    text-found (a .s .now) (a .at) (start .pre ∙ ap (textAt (a .s .now)) (sym (c .before .if1 .taken))) ⨟ c .find-zeros .ensures
 
 returns-2 : tie.Need-returns-2
 unfolding strings

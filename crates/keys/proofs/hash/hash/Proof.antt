@@ -20,8 +20,10 @@ loop-holds c = (search needs, refl)
 
 loop-again : tie.Need-loop-again Inv-loop μ-loop
 loop-again c =
-    let l = c .before .before .before .loop in
-    (omega arith, hash-step _ _ (l .i) (c .before .before .loop-test .taken) (c .step .ensures) ∙ l .inv .1)
+    let at-loop-test = c .before .before in
+    let at-loop = at-loop-test .before in
+    let l = at-loop .loop in
+    (omega arith, hash-step _ _ (l .i) (at-loop-test .loop-test .taken) (c .step .ensures) ∙ l .inv .1)
 
 returns : tie.Need-returns Inv-loop μ-loop
 returns c =

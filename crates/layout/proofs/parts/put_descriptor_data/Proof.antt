@@ -7,10 +7,10 @@ use Rattle.layout.proofs.parts.put_descriptor_data.Tie as tie
 
 returns : tie.Need-returns
 returns c =
-    let c₃ = c .before .before in
-    let c₂ = c₃ .before .before .before .before in
-    let c₁ = c₂ .before .before .before .before in
-    one (c₁ .write .ensures) ⊕ c₂ .put-relocations .ensures ⊕ string-parts (c₃ .put-string .ensures)
+    let at-put-string = c .before .before in
+    let at-put-relocations = at-put-string .before .before .before .before in
+    let at-write = at-put-relocations .before .before .before .before in
+    one (at-write .write .ensures) ⊕ at-put-relocations .put-relocations .ensures ⊕ string-parts (at-put-string .put-string .ensures)
 
 pub put-descriptor-data-spec : {M : Type 1} → statement M
 put-descriptor-data-spec =

@@ -7,9 +7,9 @@ use Rattle.layout.proofs.parts.put_descriptor_sections.Tie as tie
 
 returns : tie.Need-returns
 returns c =
-    let c₂ = c .before .before in
-    let c₁ = c₂ .before .before .before .before .before .before in
-    one (c₁ .write .ensures) ⊕ one (c₂ .write2 .ensures)
+    let at-write2 = c .before .before in
+    let at-write = at-write2 .before .before .before .before .before .before in
+    one (at-write .write .ensures) ⊕ one (at-write2 .write2 .ensures)
 
 pub put-descriptor-sections-spec : {M : Type 1} → statement M
 put-descriptor-sections-spec =

@@ -7,20 +7,20 @@ use Rattle.layout.proofs.parts.put_descriptor_symbols.Tie as tie
 
 returns : tie.Need-returns
 returns c =
-    let c₇ = c .before .before in
-    let c₆ = c₇ .before .before .before .before in
-    let c₅ = c₆ .before .before .before .before in
-    let c₄ = c₅ .before .before .before .before .before .before in
-    let c₃ = c₄ .before .before .before .before .before .before in
-    let c₂ = c₃ .before .before .before .before .before .before in
-    let c₁ = c₂ .before .before .before .before .before .before in
-    one (c₁ .put-long .ensures)
-    ⊕ one (c₂ .write .ensures)
-    ⊕ one (c₃ .write2 .ensures)
-    ⊕ one (c₄ .write3 .ensures)
-    ⊕ one (c₅ .write4 .ensures)
-    ⊕ one (c₆ .put-long2 .ensures)
-    ⊕ one (c₇ .put-long3 .ensures)
+    let at-put-long3 = c .before .before in
+    let at-put-long2 = at-put-long3 .before .before .before .before in
+    let at-write4 = at-put-long2 .before .before .before .before in
+    let at-write3 = at-write4 .before .before .before .before .before .before in
+    let at-write2 = at-write3 .before .before .before .before .before .before in
+    let at-write = at-write2 .before .before .before .before .before .before in
+    let at-put-long = at-write .before .before .before .before .before .before in
+    one (at-put-long .put-long .ensures)
+    ⊕ one (at-write .write .ensures)
+    ⊕ one (at-write2 .write2 .ensures)
+    ⊕ one (at-write3 .write3 .ensures)
+    ⊕ one (at-write4 .write4 .ensures)
+    ⊕ one (at-put-long2 .put-long2 .ensures)
+    ⊕ one (at-put-long3 .put-long3 .ensures)
 
 pub put-descriptor-symbols-spec : {M : Type 1} → statement M
 put-descriptor-symbols-spec =

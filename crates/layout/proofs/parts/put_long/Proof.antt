@@ -12,15 +12,15 @@ use Rattle.layout.proofs.parts.put_long.Tie as tie
 
 returns : tie.Need-returns
 returns c =
-    let c₂ = c .before .before in
-    let c₁ = c₂ .before .before in
-    let s = c₁ .before .before in
-    let a = s .args in
+    let at-write = c .before .before in
+    let at-long-name = at-write .before .before in
+    let start = at-long-name .before .before in
+    let a = start .args in
     let z = a .section-number in
     let back : toZ w16 (ofZ w16 z) ≡ z = search needs in
-    wrote-as (ap (λ (n : Bytes). symbol n (toZ w16 (ofZ w16 z)) (a .storage-class) (a .number-of-aux-symbols)) (c₁ .long-name .ensures)
+    wrote-as (ap (λ (n : Bytes). symbol n (toZ w16 (ofZ w16 z)) (a .storage-class) (a .number-of-aux-symbols)) (at-long-name .long-name .ensures)
     ∙ ap (λ (z : ℤ). symbol (longName (a .offset)) z (a .storage-class) (a .number-of-aux-symbols)) back)
-    (c₂ .write .ensures)
+    (at-write .write .ensures)
 
 pub put-long-spec : {M : Type 1} → statement M
 put-long-spec =

@@ -7,10 +7,10 @@ use Rattle.layout.proofs.parts.put_relocations.Tie as tie
 
 returns : tie.Need-returns
 returns c =
-    let c₃ = c .before .before in
-    let c₂ = c₃ .before .before .before .before in
-    let c₁ = c₂ .before .before .before .before in
-    one (c₁ .write .ensures) ⊕ one (c₂ .write2 .ensures) ⊕ one (c₃ .write3 .ensures)
+    let at-write3 = c .before .before in
+    let at-write2 = at-write3 .before .before .before .before in
+    let at-write = at-write2 .before .before .before .before in
+    one (at-write .write .ensures) ⊕ one (at-write2 .write2 .ensures) ⊕ one (at-write3 .write3 .ensures)
 
 pub put-relocations-spec : {M : Type 1} → statement M
 put-relocations-spec =

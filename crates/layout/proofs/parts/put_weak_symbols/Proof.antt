@@ -10,15 +10,15 @@ use Rattle.layout.proofs.parts.put_weak_symbols.Tie as tie
 
 returns : tie.Need-returns
 returns c =
-    let c₆ = c .before .before in
-    let c₅ = c₆ .before .before .before .before in
-    let c₄ = c₅ .before .before .before .before in
-    let c₃ = c₄ .before .before .before .before in
-    let c₂ = c₃ .before .before .before .before .before .before in
-    let c₁ = c₂ .before .before .before .before in
-    let aux = wrote-as (ap (λ (n : Bytes). symbol n IMAGE-SYM-UNDEFINED IMAGE-SYM-CLASS-NULL 0) (c₁ .auxiliary .ensures))
-    (c₆ .write3 .ensures) in
-    one (c₂ .write .ensures) ⊕ one (c₃ .write2 .ensures) ⊕ one (c₄ .put-long .ensures) ⊕ one (c₅ .put-long2 .ensures) ⊕ one aux
+    let at-write3 = c .before .before in
+    let at-put-long2 = at-write3 .before .before .before .before in
+    let at-put-long = at-put-long2 .before .before .before .before in
+    let at-write2 = at-put-long .before .before .before .before in
+    let at-write = at-write2 .before .before .before .before .before .before in
+    let at-auxiliary = at-write .before .before .before .before in
+    let aux = wrote-as (ap (λ (n : Bytes). symbol n IMAGE-SYM-UNDEFINED IMAGE-SYM-CLASS-NULL 0) (at-auxiliary .auxiliary .ensures))
+    (at-write3 .write3 .ensures) in
+    one (at-write .write .ensures) ⊕ one (at-write2 .write2 .ensures) ⊕ one (at-put-long .put-long .ensures) ⊕ one (at-put-long2 .put-long2 .ensures) ⊕ one aux
 
 pub put-weak-symbols-spec : {M : Type 1} → statement M
 put-weak-symbols-spec =

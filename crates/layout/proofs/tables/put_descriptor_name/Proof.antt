@@ -8,8 +8,8 @@ use Rattle.layout.proofs.tables.put_descriptor_name.Tie as tie
 returns : tie.Need-returns
 unfolding descriptorName
 returns c =
-    let c₁ = c .before .before in
-    c₁ .put-pieces .ensures
+    let at-put-pieces = c .before .before in
+    at-put-pieces .put-pieces .ensures
 
 pub put-descriptor-name-spec : {M : Type 1} → statement M
 put-descriptor-name-spec =

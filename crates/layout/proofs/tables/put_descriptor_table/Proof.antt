@@ -12,16 +12,17 @@ use Rattle.layout.proofs.tables.put_descriptor_table.Tie as tie
 returns : tie.Need-returns
 unfolding strings
 returns c =
-    let c₅ = c .before .before in
-    let c₄ = c₅ .before .before .before .before in
-    let c₃ = c₄ .before .before .before .before in
-    let c₂ = c₃ .before .before .before .before in
-    let c₁ = c₂ .before .before in
-    let a = c₁ .before .before .before .args in
+    let at-put-thunk-name = c .before .before in
+    let at-put-null-name = at-put-thunk-name .before .before .before .before in
+    let at-put-descriptor-name = at-put-null-name .before .before .before .before in
+    let at-put-u32 = at-put-descriptor-name .before .before .before .before in
+    let at-null-name-len = at-put-u32 .before .before in
+    let start = at-null-name-len .before .before .before in
+    let a = start .args in
     let k = a .stem .now in
     let n = nullName (compatStem (a .compat) k) in
-    let e = c₁ .null-name-len .ensures .0 in (
-      table _ (size-descriptor _ k n e) (c₂ .put-u32 .ensures) (c₃ .put-descriptor-name .ensures ⊞ c₄ .put-null-name .ensures ⊞ c₅ .put-thunk-name .ensures),
+    let e = at-null-name-len .null-name-len .ensures .0 in (
+      table _ (size-descriptor _ k n e) (at-put-u32 .put-u32 .ensures) (at-put-descriptor-name .put-descriptor-name .ensures ⊞ at-put-null-name .put-null-name .ensures ⊞ at-put-thunk-name .put-thunk-name .ensures),
       (refl, null-at k ∙ sym (begins-second (descriptorName k) (n ∷ thunkName k ∷ [])), thunk-at _ k n e ∙ sym (begins-third (descriptorName k) n (thunkName k ∷ []))),
     )
 

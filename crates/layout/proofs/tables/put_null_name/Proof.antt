@@ -8,13 +8,15 @@ use Rattle.layout.proofs.tables.put_null_name.Tie as tie
 
 returns : tie.Need-returns
 returns c =
-    let c₁ = c .before .before in
-    string-as (nullName-compat _ _ (c .before .before .before .before .before .if1 .taken)) (c₁ .put-pieces .ensures)
+    let at-put-pieces = c .before .before in
+    let at-if1 = at-put-pieces .before .before .before in
+    string-as (nullName-compat _ _ (at-if1 .if1 .taken)) (at-put-pieces .put-pieces .ensures)
 
 returns-2 : tie.Need-returns-2
 returns-2 c =
-    let c₁ = c .before .before in
-    string-as (nullName-plain _ _ (c .before .before .before .before .before .if1 .left)) (c₁ .put-string .ensures)
+    let at-put-string = c .before .before in
+    let at-if1 = at-put-string .before .before .before in
+    string-as (nullName-plain _ _ (at-if1 .if1 .left)) (at-put-string .put-string .ensures)
 
 pub put-null-name-spec : {M : Type 1} → statement M
 put-null-name-spec =

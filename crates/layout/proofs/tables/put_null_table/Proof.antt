@@ -8,10 +8,10 @@ use Rattle.layout.proofs.tables.put_null_table.Tie as tie
 
 returns : tie.Need-returns
 returns c =
-    let c₃ = c .before .before in
-    let c₂ = c₃ .before .before .before .before in
-    let c₁ = c₂ .before .before in
-    table _ (size-null _ _ (c₁ .null-name-len .ensures .0)) (c₂ .put-u32 .ensures) (c₃ .put-null-name .ensures)
+    let at-put-null-name = c .before .before in
+    let at-put-u32 = at-put-null-name .before .before .before .before in
+    let at-null-name-len = at-put-u32 .before .before in
+    table _ (size-null _ _ (at-null-name-len .null-name-len .ensures .0)) (at-put-u32 .put-u32 .ensures) (at-put-null-name .put-null-name .ensures)
 
 pub put-null-table-spec : {M : Type 1} → statement M
 put-null-table-spec =

@@ -7,9 +7,9 @@ use Rattle.layout.proofs.tables.put_pieces.Tie as tie
 
 returns : tie.Need-returns
 returns c =
-    let c₂ = c .before .before in
-    let c₁ = c₂ .before .before .before .before in
-    before (c₁ .put .ensures) (c₂ .put-string .ensures)
+    let at-put-string = c .before .before in
+    let at-put = at-put-string .before .before .before .before in
+    before (at-put .put .ensures) (at-put-string .put-string .ensures)
 
 pub put-pieces-spec : {M : Type 1} → statement M
 put-pieces-spec =

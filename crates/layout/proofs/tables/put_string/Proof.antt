@@ -7,9 +7,9 @@ use Rattle.layout.proofs.tables.put_string.Tie as tie
 
 returns : tie.Need-returns
 returns c =
-    let c₂ = c .before .before in
-    let c₁ = c₂ .before .before .before .before in
-    ended (c₁ .put .ensures) (c₂ .put-u8 .ensures)
+    let at-put-u8 = c .before .before in
+    let at-put = at-put-u8 .before .before .before .before in
+    ended (at-put .put .ensures) (at-put-u8 .put-u8 .ensures)
 
 pub put-string-spec : {M : Type 1} → statement M
 put-string-spec =

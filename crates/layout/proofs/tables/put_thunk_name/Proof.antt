@@ -9,9 +9,9 @@ use Rattle.layout.proofs.tables.put_thunk_name.Tie as tie
 returns : tie.Need-returns
 unfolding thunkName
 returns c =
-    let c₂ = c .before .before in
-    let c₁ = c₂ .before .before .before .before .before in
-    before (c₁ .put .ensures) (c₂ .put-pieces .ensures)
+    let at-put-pieces = c .before .before in
+    let at-put = at-put-pieces .before .before .before .before .before in
+    before (at-put .put .ensures) (at-put-pieces .put-pieces .ensures)
 
 pub put-thunk-name-spec : {M : Type 1} → statement M
 put-thunk-name-spec =

@@ -8,9 +8,9 @@ use Rattle.layout.proofs.tables.put_thunk_table.Tie as tie
 
 returns : tie.Need-returns
 returns c =
-    let c₂ = c .before .before in
-    let c₁ = c₂ .before .before .before .before in
-    table _ (size-thunk _) (c₁ .put-u32 .ensures) (c₂ .put-thunk-name .ensures)
+    let at-put-thunk-name = c .before .before in
+    let at-put-u32 = at-put-thunk-name .before .before .before .before in
+    table _ (size-thunk _) (at-put-u32 .put-u32 .ensures) (at-put-thunk-name .put-thunk-name .ensures)
 
 pub put-thunk-table-spec : {M : Type 1} → statement M
 put-thunk-table-spec =

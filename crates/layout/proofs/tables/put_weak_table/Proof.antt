@@ -12,13 +12,14 @@ use Rattle.layout.proofs.tables.put_weak_table.Tie as tie
 returns : tie.Need-returns
 unfolding strings
 returns c =
-    let c₃ = c .before .before in
-    let c₂ = c₃ .before .before .before .before in
-    let c₁ = c₂ .before .before .before .before in
-    let a = c₁ .before .before .before .before .before .before .args in
+    let at-put-pieces2 = c .before .before in
+    let at-put-pieces = at-put-pieces2 .before .before .before .before in
+    let at-put-u32 = at-put-pieces .before .before .before .before in
+    let start = at-put-u32 .before .before .before .before .before .before in
+    let a = start .args in
     let p = a .prefix .now in
     let s = a .sym .now in (
-      table _ (size-weak p s (a .weak .now)) (c₁ .put-u32 .ensures) (c₂ .put-pieces .ensures ⊞ c₃ .put-pieces2 .ensures),
+      table _ (size-weak p s (a .weak .now)) (at-put-u32 .put-u32 .ensures) (at-put-pieces .put-pieces .ensures ⊞ at-put-pieces2 .put-pieces2 .ensures),
       (refl, alias-at p s ∙ sym (begins-second (p ++ s) ((p ++ a .weak .now) ∷ []))),
     )
 

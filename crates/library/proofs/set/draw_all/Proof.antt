@@ -7,20 +7,24 @@ use Rattle.library.proofs.set.draw_all.Statement.{statement}
 use Rattle.library.proofs.set.draw_all.Tie as tie
 
 dll-requires : tie.Need-dll-requires
-dll-requires c κs = let l = listed _ (c .before .before .before .before .before .before .pre .1 .0) in (l .shape .headed, dll-inside _ l)
+dll-requires c κs =
+    let start = c .before .before .before .before .before .before in
+    let l = listed _ (start .pre .1 .0) in (l .shape .headed, dll-inside _ l)
 
 draw-members-requires : tie.Need-draw-members-requires
 draw-members-requires c κs =
-    let c₃ = c .before .before .before in
-    let c₆ = c₃ .before .before .before .before in
-    (all-room _ _ (c₃ .first-machine .ensures .0) (c .before .before .native-machine .ensures .0) (c .dll .ensures) (c₆ .pre .0), ((c₆ .pre .1 .0), (c .before .before .native-machine .ensures .1, (dll-small _ (c₆ .pre .1 .0) (c .dll .ensures), resolved-by _ (c₃ .first-machine .ensures .0) (c .before .before .native-machine .ensures .0) (c₆ .pre .1 .1 .1)))))
+    let at-native-machine = c .before .before in
+    let at-first-machine = at-native-machine .before in
+    let start = at-first-machine .before .before .before .before in
+    (all-room _ _ (at-first-machine .first-machine .ensures .0) (at-native-machine .native-machine .ensures .0) (c .dll .ensures) (start .pre .0), ((start .pre .1 .0), (at-native-machine .native-machine .ensures .1, (dll-small _ (start .pre .1 .0) (c .dll .ensures), resolved-by _ (at-first-machine .first-machine .ensures .0) (at-native-machine .native-machine .ensures .0) (start .pre .1 .1 .1)))))
 
 returns : tie.Need-returns
 returns c =
-    let c₃ = c .before .before .before in
-    let c₅ = c₃ .before .before in
-    let c₆ = c₅ .before in
-    all-drew _ _ (c₆ .first-machine .ensures .0) (c₅ .native-machine .ensures .0) (c₃ .dll .ensures) (c .before .before .draw-members .ensures)
+    let at-draw-members = c .before .before in
+    let at-dll = at-draw-members .before in
+    let at-native-machine = at-dll .before .before in
+    let at-first-machine = at-native-machine .before in
+    all-drew _ _ (at-first-machine .first-machine .ensures .0) (at-native-machine .native-machine .ensures .0) (at-dll .dll .ensures) (at-draw-members .draw-members .ensures)
 
 pub draw-all-spec : {M : Type 1} → statement M
 draw-all-spec =

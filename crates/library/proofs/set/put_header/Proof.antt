@@ -6,10 +6,11 @@ use Rattle.library.proofs.set.put_header.Tie as tie
 
 returns : tie.Need-returns
 returns c =
-    let c₆ = c .before .before .before .before .before .before in
-    let c₁₀ = c₆ .before .before .before .before in
-    let c₁₄ = c₁₀ .before .before .before .before in
-    ((c₁₄ .put-u32 .ensures ⨾ c₁₀ .put-u322 .ensures) ⨾ c₆ .put-u323 .ensures) ⨾ c .before .before .put-u324 .ensures
+    let at-put-u324 = c .before .before in
+    let at-put-u323 = at-put-u324 .before .before .before .before in
+    let at-put-u322 = at-put-u323 .before .before .before .before in
+    let at-put-u32 = at-put-u322 .before .before .before .before in
+    ((at-put-u32 .put-u32 .ensures ⨾ at-put-u322 .put-u322 .ensures) ⨾ at-put-u323 .put-u323 .ensures) ⨾ at-put-u324 .put-u324 .ensures
 
 pub put-header-spec : {M : Type 1} → statement M
 put-header-spec =

@@ -11,8 +11,10 @@ has-wanted-requires c κs = list-accepted _ _ (c .before .pre .0)
 
 total-resolved-requires : tie.Need-total-resolved-requires
 total-resolved-requires c κs =
-    let p = c .before .before .before .before .pre in
-    (p .0, (p .1, nothing-wanted _ _ _ _ (sym (c .before .if1 .left) ∙ c .before .before .has-wanted .ensures)))
+    let at-has-wanted = c .before .before in
+    let start = at-has-wanted .before .before in
+    let p = start .pre in
+    (p .0, (p .1, nothing-wanted _ _ _ _ (sym (c .before .if1 .left) ∙ at-has-wanted .has-wanted .ensures)))
 
 pub total-accepted-spec : {M : Type 1} → statement M
 total-accepted-spec =

@@ -8,9 +8,10 @@ use Rattle.library.proofs.set.total_resolved.Tie as tie
 
 returns : tie.Need-returns
 returns c =
-    let measured = c .before .before in
-    let known = c .before .before .before .before .before in
-    c .total-of .ensures ∙ measured-total _ _ (octets _ (known .shared-slice-known .given)) (known .before .pre .0) (measured .measure .ensures .1)
+    let at-measure = c .before .before in
+    let at-shared-slice-known = at-measure .before .before .before in
+    let start = at-shared-slice-known .before in
+    c .total-of .ensures ∙ measured-total _ _ (octets _ (at-shared-slice-known .shared-slice-known .given)) (start .pre .0) (at-measure .measure .ensures .1)
 
 pub total-resolved-spec : {M : Type 1} → statement M
 total-resolved-spec =

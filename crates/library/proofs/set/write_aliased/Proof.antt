@@ -8,14 +8,17 @@ use Rattle.library.proofs.set.write_aliased.Tie as tie
 
 resolve-all-requires : tie.Need-resolve-all-requires
 resolve-all-requires c κs =
-    let p = c .before .before .before .before .pre in
+    let start = c .before .before .before .before in
+    let p = start .pre in
     let e = list-accepted _ _ (p .0) in
     (p .1 .1, (e, (p .1 .0, omega (arith, both-small _ e))))
 
 write-resolved-requires : tie.Need-write-resolved-requires
 write-resolved-requires c κs =
-    let p = c .before .before .before .before .before .before .before .before .before .pre in
-    (p .0, (p .1 .0, c .before .before .before .before .resolve-all .ensures))
+    let at-resolve-all = c .before .before .before .before in
+    let start = at-resolve-all .before .before .before .before .before in
+    let p = start .pre in
+    (p .0, (p .1 .0, at-resolve-all .resolve-all .ensures))
 
 pub write-aliased-spec : {M : Type 1} → statement M
 write-aliased-spec =

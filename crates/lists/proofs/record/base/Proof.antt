@@ -6,10 +6,14 @@ use Rattle.lists.proofs.record.base.Statement.{statement}
 use Rattle.lists.proofs.record.base.Tie as tie
 
 returns : tie.Need-returns
-returns c = c .string .ensures ∙ base-name _ _ (sym (c .before .before .absent .ensures) ∙ c .before .if1 .taken)
+returns c =
+    let at-absent = c .before .before in
+    c .string .ensures ∙ base-name _ _ (sym (at-absent .absent .ensures) ∙ c .before .if1 .taken)
 
 returns-2 : tie.Need-returns-2
-returns-2 c = c .string2 .ensures ∙ base-symbol _ _ (sym (c .before .before .absent .ensures) ∙ c .before .if1 .left)
+returns-2 c =
+    let at-absent = c .before .before in
+    c .string2 .ensures ∙ base-symbol _ _ (sym (at-absent .absent .ensures) ∙ c .before .if1 .left)
 
 pub base-spec : {M : Type 1} → statement M
 base-spec =

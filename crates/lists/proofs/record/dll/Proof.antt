@@ -8,8 +8,9 @@ use Rattle.lists.proofs.record.dll.Tie as tie
 
 returns : tie.Need-returns
 returns c =
-    let c₃ = c .before .before .before in
-    c .part .ensures ∙ string-at _ _ _ _ (ap₂ _+_ (c₃ .u32-at .ensures) (c .before .before .u32-at2 .ensures)) (c .before .u32-at3 .ensures)
+    let at-u32-at2 = c .before .before in
+    let at-u32-at = at-u32-at2 .before in
+    c .part .ensures ∙ string-at _ _ _ _ (ap₂ _+_ (at-u32-at .u32-at .ensures) (at-u32-at2 .u32-at2 .ensures)) (c .before .u32-at3 .ensures)
 
 pub dll-spec : {M : Type 1} → statement M
 dll-spec =

@@ -8,16 +8,19 @@ use Rattle.lists.proofs.record.string.Statement.{statement}
 use Rattle.lists.proofs.record.string.Tie as tie
 
 part-requires : tie.Need-part-requires
-part-requires c κs = let d = c .before .before .before .before .before in
-    let at = c .before .before .before .record-at .ensures in
-    omega (arith, d .pre .0 .strings (d .args .f) (d .pre .1), rw at at (c .before .u32-at2 .ensures), rw at at (c .u32-at3 .ensures))
+part-requires c κs =
+    let at-record-at = c .before .before .before in
+    let start = at-record-at .before .before in
+    let at = at-record-at .record-at .ensures in
+    omega (arith, start .pre .0 .strings (start .args .f) (start .pre .1), rw at at (c .before .u32-at2 .ensures), rw at at (c .u32-at3 .ensures))
 
 returns : tie.Need-returns
 returns c =
-    let c₃ = c .before .before .before in
-    let c₄ = c₃ .before in
-    let at = c₄ .record-at .ensures in c .part .ensures ∙ string-at _ _ _ _
-    (ap₂ _+_ (c₃ .u32-at .ensures) (rw at at (c .before .before .u32-at2 .ensures))) (rw at at (c .before .u32-at3 .ensures))
+    let at-u32-at2 = c .before .before in
+    let at-u32-at = at-u32-at2 .before in
+    let at-record-at = at-u32-at .before in
+    let at = at-record-at .record-at .ensures in c .part .ensures ∙ string-at _ _ _ _
+    (ap₂ _+_ (at-u32-at .u32-at .ensures) (rw at at (at-u32-at2 .u32-at2 .ensures))) (rw at at (c .before .u32-at3 .ensures))
 
 pub string-spec : {M : Type 1} → statement M
 string-spec =

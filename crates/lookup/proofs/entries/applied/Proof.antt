@@ -11,7 +11,9 @@ returns-2 : tie.Need-returns-2
 returns-2 c = applied-as 3 _ (c .before .if2 .taken) (c .apply-name-type2 .ensures)
 
 returns-3 : tie.Need-returns-3
-returns-3 c = applied-plain _ (c .before .before .if1 .left) (c .before .if2 .left) (c .apply-name-type3 .ensures)
+returns-3 c =
+    let at-if1 = c .before .before in
+    applied-plain _ (at-if1 .if1 .left) (c .before .if2 .left) (c .apply-name-type3 .ensures)
 
 pub applied-spec : {M : Type 1} → statement M
 applied-spec =

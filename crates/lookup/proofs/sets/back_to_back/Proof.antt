@@ -17,31 +17,46 @@ loop-holds : tie.Need-loop-holds Inv-loop μ-loop
 loop-holds c = (omega arith, back-start _ _ _)
 
 offset-at-requires : tie.Need-offset-at-requires Inv-loop μ-loop
-offset-at-requires c κs = omega (arith, c .loop-test .taken, c .before .before .before .pre)
+offset-at-requires c κs =
+    let start = c .before .before .before in
+    omega (arith, c .loop-test .taken, start .pre)
 
 returns : tie.Need-returns Inv-loop μ-loop
 returns c =
-    let l = c .before .before .before .loop in
-    sym (l .inv .1 ∙ back-elsewhere _ _ (l .i) (l .end) (c .before .before .loop-test .taken) (λ e. c .if1 .taken (c .before .offset-at .ensures .0 ∙ e)))
+    let at-loop-test = c .before .before in
+    let at-loop = at-loop-test .before in
+    let l = at-loop .loop in
+    sym (l .inv .1 ∙ back-elsewhere _ _ (l .i) (l .end) (at-loop-test .loop-test .taken) (λ e. c .if1 .taken (c .before .offset-at .ensures .0 ∙ e)))
 
 length-at-requires : tie.Need-length-at-requires Inv-loop μ-loop
-length-at-requires c κs = omega (arith, c .before .before .loop-test .taken, c .before .before .before .before .before .pre)
+length-at-requires c κs =
+    let at-loop-test = c .before .before in
+    let start = at-loop-test .before .before .before in
+    omega (arith, at-loop-test .loop-test .taken, start .pre)
 
 add-end : tie.Need-add-end Inv-loop μ-loop
-add-end c = omega (arith, c .length-at .ensures .1, c .before .before .offset-at .ensures .1, c .before .if1 .left)
+add-end c =
+    let at-offset-at = c .before .before in
+    omega (arith, c .length-at .ensures .1, at-offset-at .offset-at .ensures .1, c .before .if1 .left)
 
 add-i : tie.Need-add-i Inv-loop μ-loop
-add-i c = omega (arith, c .before .before .before .loop-test .taken, c .before .before .before .before .before .before .pre)
+add-i c =
+    let at-loop-test = c .before .before .before in
+    let start = at-loop-test .before .before .before in
+    omega (arith, at-loop-test .loop-test .taken, start .pre)
 
 loop-less : tie.Need-loop-less Inv-loop μ-loop
-loop-less c = omega (arith, c .before .before .before .loop-test .taken)
+loop-less c =
+    let at-loop-test = c .before .before .before in
+    omega (arith, at-loop-test .loop-test .taken)
 
 loop-again : tie.Need-loop-again Inv-loop μ-loop
 loop-again c =
-    let c₃ = c .before .before .before in
-    let c₄ = c₃ .before in
-    let l = c₄ .loop in
-    (omega (arith, c₃ .loop-test .taken), l .inv .1 ∙ back-next _ _ (l .i) (l .end) (c₃ .loop-test .taken) (c .before .if1 .left) (c .before .before .offset-at .ensures .0) (c .length-at .ensures .0))
+    let at-offset-at = c .before .before in
+    let at-loop-test = at-offset-at .before in
+    let at-loop = at-loop-test .before in
+    let l = at-loop .loop in
+    (omega (arith, at-loop-test .loop-test .taken), l .inv .1 ∙ back-next _ _ (l .i) (l .end) (at-loop-test .loop-test .taken) (c .before .if1 .left) (at-offset-at .offset-at .ensures .0) (c .length-at .ensures .0))
 
 returns-2 : tie.Need-returns-2 Inv-loop μ-loop
 returns-2 c =

@@ -19,31 +19,45 @@ loop-holds : tie.Need-loop-holds Inv-loop μ-loop
 loop-holds c = (c .before .pre .1 .0, refl)
 
 member-at-requires : tie.Need-member-at-requires Inv-loop μ-loop
-member-at-requires c κs = let p = c .before .before .before .pre in (p .0, omega (arith, c .loop-test .taken, p .1 .1))
+member-at-requires c κs =
+    let start = c .before .before .before in
+    let p = start .pre in (p .0, omega (arith, c .loop-test .taken, p .1 .1))
 
 returns : tie.Need-returns Inv-loop μ-loop
 returns c =
-    let c₄ = c .before .before .before .before in
-    let l = c₄ .before .loop in
-    let r = rank-at _ _ (c .before .rank .ensures) (c .before .before .read .ensures) (c .before .before .before .member-at .ensures .0) in
-    sym (l .inv .1 ∙ ranked-not _ _ (l .expected) (l .i) (c₄ .loop-test .taken) (λ e. c .if1 .taken (r ∙ e)))
+    let at-read = c .before .before in
+    let at-member-at = at-read .before in
+    let at-loop-test = at-member-at .before in
+    let at-loop = at-loop-test .before in
+    let l = at-loop .loop in
+    let r = rank-at _ _ (c .before .rank .ensures) (at-read .read .ensures) (at-member-at .member-at .ensures .0) in
+    sym (l .inv .1 ∙ ranked-not _ _ (l .expected) (l .i) (at-loop-test .loop-test .taken) (λ e. c .if1 .taken (r ∙ e)))
 
 next-rank-requires : tie.Need-next-rank-requires Inv-loop μ-loop
-next-rank-requires c κs = c .before .before .before .before .before .loop .inv .0
+next-rank-requires c κs =
+    let at-loop = c .before .before .before .before .before in
+    at-loop .loop .inv .0
 
 add-i : tie.Need-add-i Inv-loop μ-loop
-add-i c = omega (arith, c .before .before .before .before .before .loop-test .taken)
+add-i c =
+    let at-loop-test = c .before .before .before .before .before in
+    omega (arith, at-loop-test .loop-test .taken)
 
 loop-less : tie.Need-loop-less Inv-loop μ-loop
-loop-less c = omega (arith, c .before .before .before .before .before .loop-test .taken)
+loop-less c =
+    let at-loop-test = c .before .before .before .before .before in
+    omega (arith, at-loop-test .loop-test .taken)
 
 loop-again : tie.Need-loop-again Inv-loop μ-loop
 loop-again c =
-    let c₃ = c .before .before .before in
-    let c₅ = c₃ .before .before in
-    let l = c₅ .before .loop in
-    let r = rank-at _ _ (c .before .before .rank .ensures) (c₃ .read .ensures) (c₃ .before .member-at .ensures .0) in
-    (c .next-rank .ensures .1, l .inv .1 ∙ ranked-next _ _ (l .expected) (l .i) (c₅ .loop-test .taken) (sym r ∙ c .before .if1 .left) (c .next-rank .ensures .0))
+    let at-rank = c .before .before in
+    let at-read = at-rank .before in
+    let at-member-at = at-read .before in
+    let at-loop-test = at-member-at .before in
+    let at-loop = at-loop-test .before in
+    let l = at-loop .loop in
+    let r = rank-at _ _ (at-rank .rank .ensures) (at-read .read .ensures) (at-member-at .member-at .ensures .0) in
+    (c .next-rank .ensures .1, l .inv .1 ∙ ranked-next _ _ (l .expected) (l .i) (at-loop-test .loop-test .taken) (sym r ∙ c .before .if1 .left) (c .next-rank .ensures .0))
 
 returns-2 : tie.Need-returns-2 Inv-loop μ-loop
 returns-2 c =

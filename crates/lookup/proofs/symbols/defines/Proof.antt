@@ -6,32 +6,46 @@ use Rattle.lookup.proofs.symbols.defines.Statement.{statement}
 use Rattle.lookup.proofs.symbols.defines.Tie as tie
 
 part-requires : tie.Need-part-requires
-part-requires c κs = said-as _ _ (c .before .before .before .before .before .pre) (c .before .said .given .1) .symbol .inside
+part-requires c κs =
+    let start = c .before .before .before .before .before in
+    said-as _ _ (start .pre) (c .before .said .given .1) .symbol .inside
 
 part-requires-2 : tie.Need-part-requires-2
-part-requires-2 c κs = said-as _ _ (c .before .before .before .before .before .pre) (c .before .said2 .given .1) .from .inside
+part-requires-2 c κs =
+    let start = c .before .before .before .before .before in
+    said-as _ _ (start .pre) (c .before .said2 .given .1) .from .inside
 
 returns : tie.Need-returns
-returns c = mute-defines _ _ (said-as _ _ (c .before .before .before .before .pre) (c .enum-told .given .1))
+returns c =
+    let start = c .before .before .before .before in
+    mute-defines _ _ (said-as _ _ (start .pre) (c .enum-told .given .1))
 
 returns-2 : tie.Need-returns-2
-returns-2 c = mute-defines _ _ (said-as _ _ (c .before .before .before .before .pre) (c .enum-told2 .given .1))
+returns-2 c =
+    let start = c .before .before .before .before in
+    mute-defines _ _ (said-as _ _ (start .pre) (c .enum-told2 .given .1))
 
 returns-3 : tie.Need-returns-3
-returns-3 c = mute-defines _ _ (said-as _ _ (c .before .before .before .before .pre) (c .enum-told3 .given .1))
+returns-3 c =
+    let start = c .before .before .before .before in
+    mute-defines _ _ (said-as _ _ (start .pre) (c .enum-told3 .given .1))
 
 returns-4 : tie.Need-returns-4
 returns-4 c =
-    let c₃ = c .before .before .before in
-    short-defines _ (said-as _ _ (c₃ .before .before .before .before .pre) (c₃ .said .given .1)) (c .before .part .ensures) (c .defines-short .ensures)
+    let at-said = c .before .before .before in
+    let start = at-said .before .before .before .before in
+    short-defines _ (said-as _ _ (start .pre) (at-said .said .given .1)) (c .before .part .ensures) (c .defines-short .ensures)
 
 returns-5 : tie.Need-returns-5
 returns-5 c =
-    let c₃ = c .before .before .before in
-    weak-defines _ (said-as _ _ (c₃ .before .before .before .before .pre) (c₃ .said2 .given .1)) (c .before .part2 .ensures) (c .same .ensures)
+    let at-said2 = c .before .before .before in
+    let start = at-said2 .before .before .before .before in
+    weak-defines _ (said-as _ _ (start .pre) (at-said2 .said2 .given .1)) (c .before .part2 .ensures) (c .same .ensures)
 
 returns-6 : tie.Need-returns-6
-returns-6 c = mute-defines _ _ (said-as _ _ (c .before .before .before .before .pre) (c .enum-told4 .given .1))
+returns-6 c =
+    let start = c .before .before .before .before in
+    mute-defines _ _ (said-as _ _ (start .pre) (c .enum-told4 .given .1))
 
 pub defines-spec : {M : Type 1} → statement M
 defines-spec =

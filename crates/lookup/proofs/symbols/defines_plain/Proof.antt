@@ -9,13 +9,16 @@ returns : tie.Need-returns
 returns c = plain-address _ _ _ (sym (c .before .is-name .ensures) ∙ c .if1 .taken)
 
 returns-2 : tie.Need-returns-2
-returns-2 c = plain-data _ _ _ (sym (c .before .before .is-name .ensures) ∙ c .before .if1 .left) (c .if2 .taken)
+returns-2 c =
+    let at-is-name = c .before .before in
+    plain-data _ _ _ (sym (at-is-name .is-name .ensures) ∙ c .before .if1 .left) (c .if2 .taken)
 
 returns-3 : tie.Need-returns-3
 returns-3 c =
-    let c₃ = c .before .before .before in
-    let c₄ = c₃ .before in
-    plain-by _ _ _ (sym (c₄ .is-name .ensures) ∙ c₃ .if1 .left) (c .before .before .if2 .left) (c .is-name2 .ensures)
+    let at-if2 = c .before .before in
+    let at-if1 = at-if2 .before in
+    let at-is-name = at-if1 .before in
+    plain-by _ _ _ (sym (at-is-name .is-name .ensures) ∙ at-if1 .if1 .left) (at-if2 .if2 .left) (c .is-name2 .ensures)
 
 pub defines-plain-spec : {M : Type 1} → statement M
 defines-plain-spec =

@@ -12,21 +12,20 @@ returns c = λ e. absurd (true≢false e)
 
 returns-2 : tie.Need-returns-2
 returns-2 c =
-    let name = c .before .before in
-    let header = name .before in
-    let test = header .before in
-    let file = test .before .before in
-    may-short _ _ (sym (ap (λ (h : FileHeader). h .machine) (file .read .ensures)) ∙ test .if2 .taken) (header .read2 .ensures) (name .text .ensures) (c .defines-short .ensures)
+    let at-text = c .before .before in
+    let at-read2 = at-text .before in
+    let at-if2 = at-read2 .before in
+    let at-read = at-if2 .before .before in
+    may-short _ _ (sym (ap (λ (h : FileHeader). h .machine) (at-read .read .ensures)) ∙ at-if2 .if2 .taken) (at-read2 .read2 .ensures) (at-text .text .ensures) (c .defines-short .ensures)
 
 returns-3 : tie.Need-returns-3
 returns-3 c =
-    let alias = c .before in
-    let target = alias .before in
-    let symbols = target .before in
-    let test = symbols .before .before in
-    let file = test .before .before in
-    may-weak _ _ (λ e. test .if2 .left (ap (λ (h : FileHeader). h .machine) (file .read .ensures) ∙ e))
-    (sym (ap (λ (h : FileHeader). h .«number_of_symbols») (file .read .ensures)) ∙ symbols .if3 .taken) (target .text2 .ensures) (alias .text3 .ensures) (c .same .ensures)
+    let at-text2 = c .before .before in
+    let at-if3 = at-text2 .before in
+    let at-if2 = at-if3 .before .before in
+    let at-read = at-if2 .before .before in
+    may-weak _ _ (λ e. at-if2 .if2 .left (ap (λ (h : FileHeader). h .machine) (at-read .read .ensures) ∙ e))
+    (sym (ap (λ (h : FileHeader). h .«number_of_symbols») (at-read .read .ensures)) ∙ at-if3 .if3 .taken) (at-text2 .text2 .ensures) (c .before .text3 .ensures) (c .same .ensures)
 
 returns-4 : tie.Need-returns-4
 returns-4 c = λ e. absurd (true≢false e)

@@ -7,17 +7,20 @@ use Rattle.members.proofs.extents.descriptor_size.Statement.{statement}
 use Rattle.members.proofs.extents.descriptor_size.Tie as tie
 
 null-name-len-requires : tie.Need-null-name-len-requires
-null-name-len-requires c κs = stem-within _ (c .before .before .pre .1) (c .before .before .pre .0)
+null-name-len-requires c κs =
+    let start = c .before .before in
+    stem-within _ (start .pre .1) (start .pre .0)
 
 add-result-3 : tie.Need-add-result-3
 add-result-3 c =
-    let p = c .before .before .before .pre in
+    let start = c .before .before .before in
+    let p = start .pre in
     omega (arith, stem-within _ (p .1) (p .0), p .0, c .null-name-len .ensures .1)
 
 returns : tie.Need-returns
 returns c =
-    let c₃ = c .before .before .before in
-    λ m. descriptor-extent m _ _ _ (c₃ .args .compat) (c₃ .pre .1) (c .null-name-len .ensures .0)
+    let start = c .before .before .before in
+    λ m. descriptor-extent m _ _ _ (start .args .compat) (start .pre .1) (c .null-name-len .ensures .0)
 
 pub descriptor-size-spec : {M : Type 1} → statement M
 descriptor-size-spec =

@@ -6,13 +6,13 @@ use Rattle.members.proofs.extents.short_size.Tie as tie
 
 returns : tie.Need-returns
 returns c =
-    let c₆ = c .before .before .before .before .before .before in
-    λ m o k. short-exported m o k _ _ _ _ (c₆ .args .head .now) (c₆ .args .tail .now) (c .before .number .ensures) (c .if1 .taken)
+    let start = c .before .before .before .before .before .before in
+    λ m o k. short-exported m o k _ _ _ _ (start .args .head .now) (start .args .tail .now) (c .before .number .ensures) (c .if1 .taken)
 
 returns-2 : tie.Need-returns-2
 returns-2 c =
-    let c₆ = c .before .before .before .before .before .before in
-    λ m o k. short-plain m o k _ _ _ _ (c₆ .args .head .now) (c₆ .args .tail .now) (c .before .number .ensures) (c .if1 .left)
+    let start = c .before .before .before .before .before .before in
+    λ m o k. short-plain m o k _ _ _ _ (start .args .head .now) (start .args .tail .now) (c .before .number .ensures) (c .if1 .left)
 
 pub short-size-spec : {M : Type 1} → statement M
 short-size-spec =

@@ -6,7 +6,9 @@ use Rattle.members.proofs.extents.thunk_size.Statement.{statement}
 use Rattle.members.proofs.extents.thunk_size.Tie as tie
 
 returns : tie.Need-returns
-returns c = omega (arith, c .slot-size .ensures .0, length-encode-nullThunk (c .before .before .args .machine .number) (c .before .before .args .stem .now))
+returns c =
+    let start = c .before .before in
+    omega (arith, c .slot-size .ensures .0, length-encode-nullThunk (start .args .machine .number) (start .args .stem .now))
 
 pub thunk-size-spec : {M : Type 1} → statement M
 thunk-size-spec =

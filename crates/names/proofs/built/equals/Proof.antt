@@ -9,12 +9,14 @@ use Rattle.names.proofs.built.equals.Tie as tie
 
 array-share-prefix-b : tie.Need-array-share-prefix-b
 array-share-prefix-b c =
-    let e : length (c .before .before .args .n .bytes) ≡ 8192 = search needs in
+    let start = c .before .before in
+    let e : length (start .args .n .bytes) ≡ 8192 = search needs in
     omega arith
 
 slice-aggregate-same : tie.Need-slice-aggregate-same
 slice-aggregate-same c =
-    let e : length (c .before .before .before .args .n .bytes) ≡ 8192 = search needs in
+    let start = c .before .before .before in
+    let e : length (start .args .n .bytes) ≡ 8192 = search needs in
     sym (length-take-le _ _ (omega arith))
 
 pub equals-spec : {M : Type 1} → statement M

@@ -14,14 +14,16 @@ returns-2 c = sym (barred-by _ (sym (c .before .same .ensures) ∙ c .if2 .taken
 
 returns-3 : tie.Need-returns-3
 returns-3 c =
-    let one = c .before .before .before in
-    sym (barred-by _ (sym (one .before .same .ensures) ∙ one .if2 .left) (sym (c .before .same2 .ensures) ∙ c .if3 .taken))
+    let at-if2 = c .before .before .before in
+    let at-same = at-if2 .before in
+    sym (barred-by _ (sym (at-same .same .ensures) ∙ at-if2 .if2 .left) (sym (c .before .same2 .ensures) ∙ c .if3 .taken))
 
 returns-4 : tie.Need-returns-4
 returns-4 c =
-    let two = c .before in
-    let one = two .before .before .before in
-    c .separated2 .ensures ∙ sym (barred-by _ (sym (one .before .same .ensures) ∙ one .if2 .left) (sym (two .before .same2 .ensures) ∙ two .if3 .left))
+    let at-same2 = c .before .before in
+    let at-if2 = at-same2 .before .before in
+    let at-same = at-if2 .before in
+    c .separated2 .ensures ∙ sym (barred-by _ (sym (at-same .same .ensures) ∙ at-if2 .if2 .left) (sym (at-same2 .same2 .ensures) ∙ c .before .if3 .left))
 
 pub barred-spec : {M : Type 1} → statement M
 barred-spec =

@@ -20,16 +20,20 @@ loop-holds c = refl
 
 returns : tie.Need-returns Inv-loop μ-loop
 returns c =
-    let l = c .before .before .before .before in
-    sym (l .loop .inv ∙ separated-here (l .before .before .args .dll .now) (l .loop .i) (omega arith) (sym (c .before .separates .ensures) ∙ c .if1 .taken))
+    let at-loop = c .before .before .before .before in
+    let start = at-loop .before .before in
+    sym (at-loop .loop .inv ∙ separated-here (start .args .dll .now) (at-loop .loop .i) (omega arith) (sym (c .before .separates .ensures) ∙ c .if1 .taken))
 
 loop-again : tie.Need-loop-again Inv-loop μ-loop
 loop-again c =
-    let l = c .before .before .before .before in
-    l .loop .inv ∙ separated-later (l .before .before .args .dll .now) (l .loop .i) (omega arith) (sym (c .before .separates .ensures) ∙ c .if1 .left)
+    let at-loop = c .before .before .before .before in
+    let start = at-loop .before .before in
+    at-loop .loop .inv ∙ separated-later (start .args .dll .now) (at-loop .loop .i) (omega arith) (sym (c .before .separates .ensures) ∙ c .if1 .left)
 
 returns-2 : tie.Need-returns-2 Inv-loop μ-loop
-returns-2 c = sym (c .before .loop .inv ∙ separated-end (c .before .before .before .args .dll .now) (c .before .loop .i) (omega arith))
+returns-2 c =
+    let start = c .before .before .before in
+    sym (c .before .loop .inv ∙ separated-end (start .args .dll .now) (c .before .loop .i) (omega arith))
 
 pub separated-spec : {M : Type 1} → statement M
 separated-spec =

@@ -19,13 +19,13 @@ loop-holds c = (search needs, refl)
 
 returns : tie.Need-returns Inv-loop μ-loop
 returns c =
-    let l = c .before .before .before in
-    stem-dot _ _ (omega arith) (omega arith) (l .loop .inv .1 ∙ dot-here _ _ (omega arith) (c .if1 .taken))
+    let at-loop = c .before .before .before in
+    stem-dot _ _ (omega arith) (omega arith) (at-loop .loop .inv .1 ∙ dot-here _ _ (omega arith) (c .if1 .taken))
 
 loop-again : tie.Need-loop-again Inv-loop μ-loop
 loop-again c =
-    let l = c .before .before .before in
-    (omega arith, l .loop .inv .1 ∙ dot-earlier _ _ (omega arith) (c .if1 .left))
+    let at-loop = c .before .before .before in
+    (omega arith, at-loop .loop .inv .1 ∙ dot-earlier _ _ (omega arith) (c .if1 .left))
 
 returns-2 : tie.Need-returns-2 Inv-loop μ-loop
 returns-2 c = stem-whole _ (c .before .loop .i) (omega arith) (c .before .loop .inv .1)

@@ -10,41 +10,57 @@ use Rattle.names.proofs.mangler.get_arm64ec_demangled_function_name.Sta
 use Rattle.names.proofs.mangler.get_arm64ec_demangled_function_name.Tie as tie
 
 returns : tie.Need-returns
-returns c = demangles-alone _ (sym (c .before .before .starts-with .ensures) ∙ c .before .if1 .taken) (c .if2 .taken)
+returns c =
+    let at-starts-with = c .before .before in
+    demangles-alone _ (sym (at-starts-with .starts-with .ensures) ∙ c .before .if1 .taken) (c .if2 .taken)
 
 returns-2 : tie.Need-returns-2
-returns-2 c = demangles-dropped _ (sym (c .before .before .starts-with .ensures) ∙ c .before .if1 .taken) (c .if2 .left)
+returns-2 c =
+    let at-starts-with = c .before .before in
+    demangles-dropped _ (sym (at-starts-with .starts-with .ensures) ∙ c .before .if1 .taken) (c .if2 .left)
 
 returns-3 : tie.Need-returns-3
 returns-3 c =
-    let one = c .before .before in
-    demangles-plain _ (sym (one .before .starts-with .ensures) ∙ one .if1 .left) (sym (c .before .starts-with2 .ensures) ∙ not-true _ (c .if3 .taken))
+    let at-if1 = c .before .before in
+    let at-starts-with = at-if1 .before in
+    demangles-plain _ (sym (at-starts-with .starts-with .ensures) ∙ at-if1 .if1 .left) (sym (c .before .starts-with2 .ensures) ∙ not-true _ (c .if3 .taken))
 
 returns-4 : tie.Need-returns-4
 returns-4 c =
-    let two = c .before .before .before in
-    let one = two .before .before in
-    demangles-untagged _ (sym (one .before .starts-with .ensures) ∙ one .if1 .left) (sym (two .before .starts-with2 .ensures) ∙ not-false _ (two .if3 .left))
-    (place-nowhere _ (sym (c .before .before .find-tag .ensures) ∙ c .enum-told .given .1))
+    let at-find-tag = c .before .before in
+    let at-if3 = at-find-tag .before in
+    let at-starts-with2 = at-if3 .before in
+    let at-if1 = at-starts-with2 .before in
+    let at-starts-with = at-if1 .before in
+    demangles-untagged _ (sym (at-starts-with .starts-with .ensures) ∙ at-if1 .if1 .left) (sym (at-starts-with2 .starts-with2 .ensures) ∙ not-false _ (at-if3 .if3 .left))
+    (place-nowhere _ (sym (at-find-tag .find-tag .ensures) ∙ c .enum-told .given .1))
 
 add-if4 : tie.Need-add-if4
-add-if4 c = omega (arith, find-within _ _ _ (place-at _ _ (sym (c .before .before .before .find-tag .ensures) ∙ c .before .at .given .1)))
+add-if4 c =
+    let at-find-tag = c .before .before .before in
+    omega (arith, find-within _ _ _ (place-at _ _ (sym (at-find-tag .find-tag .ensures) ∙ c .before .at .given .1)))
 
 returns-5 : tie.Need-returns-5
 returns-5 c =
-    let t = c .before .before in
-    let two = t .before .before .before in
-    let one = two .before .before in
-    demangles-last _ (sym (one .before .starts-with .ensures) ∙ one .if1 .left) (sym (two .before .starts-with2 .ensures) ∙ not-false _ (two .if3 .left))
-    (place-at _ _ (sym (t .before .before .find-tag .ensures) ∙ t .at .given .1)) (c .if4 .taken)
+    let at-at = c .before .before in
+    let at-find-tag = at-at .before .before in
+    let at-if3 = at-find-tag .before in
+    let at-starts-with2 = at-if3 .before in
+    let at-if1 = at-starts-with2 .before in
+    let at-starts-with = at-if1 .before in
+    demangles-last _ (sym (at-starts-with .starts-with .ensures) ∙ at-if1 .if1 .left) (sym (at-starts-with2 .starts-with2 .ensures) ∙ not-false _ (at-if3 .if3 .left))
+    (place-at _ _ (sym (at-find-tag .find-tag .ensures) ∙ at-at .at .given .1)) (c .if4 .taken)
 
 returns-6 : tie.Need-returns-6
 returns-6 c =
-    let t = c .before .before in
-    let two = t .before .before .before in
-    let one = two .before .before in
-    demangles-cut _ (sym (one .before .starts-with .ensures) ∙ one .if1 .left) (sym (two .before .starts-with2 .ensures) ∙ not-false _ (two .if3 .left))
-    (place-at _ _ (sym (t .before .before .find-tag .ensures) ∙ t .at .given .1)) (c .if4 .left)
+    let at-at = c .before .before in
+    let at-find-tag = at-at .before .before in
+    let at-if3 = at-find-tag .before in
+    let at-starts-with2 = at-if3 .before in
+    let at-if1 = at-starts-with2 .before in
+    let at-starts-with = at-if1 .before in
+    demangles-cut _ (sym (at-starts-with .starts-with .ensures) ∙ at-if1 .if1 .left) (sym (at-starts-with2 .starts-with2 .ensures) ∙ not-false _ (at-if3 .if3 .left))
+    (place-at _ _ (sym (at-find-tag .find-tag .ensures) ∙ at-at .at .given .1)) (c .if4 .left)
 
 pub get-arm64ec-demangled-function-name-spec : {M : Type 1} → statement M
 get-arm64ec-demangled-function-name-spec =

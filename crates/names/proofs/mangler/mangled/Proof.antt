@@ -8,12 +8,15 @@ use Rattle.names.proofs.mangler.mangled.Statement.{statement}
 use Rattle.names.proofs.mangler.mangled.Tie as tie
 
 lay-requires-2 : tie.Need-lay-requires-2
-lay-requires-2 c κs = wrote-length (c .before .lay .ensures) ∙ fresh-length (c .before .before .before .before .fresh .ensures .1)
+lay-requires-2 c κs =
+    let at-fresh = c .before .before .before .before in
+    wrote-length (c .before .lay .ensures) ∙ fresh-length (at-fresh .fresh .ensures .1)
 
 returns : tie.Need-returns
 returns c =
-    let f = c .before .before .before .before .before in
-    built-wrote (fresh-length (f .fresh .ensures .1)) (omega arith) (c .before .before .lay .ensures ⨾ c .lay2 .ensures)
+    let at-lay = c .before .before in
+    let at-fresh = at-lay .before .before .before in
+    built-wrote (fresh-length (at-fresh .fresh .ensures .1)) (omega arith) (at-lay .lay .ensures ⨾ c .lay2 .ensures)
 
 pub mangled-spec : {M : Type 1} → statement M
 mangled-spec = tie.close (tie.spec (λ c κs. search needs) (λ c. search needs) (λ c κs. search needs) lay-requires-2 returns)

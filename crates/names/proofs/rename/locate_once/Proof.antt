@@ -10,23 +10,25 @@ use Rattle.names.proofs.rename.locate_once.Tie as tie
 
 add-t14 : tie.Need-add-t14
 add-t14 c =
-    let f = c .before .before .before in
-    let a = f .before .before .before .before .before .args in
-    let e = find-rest (a .from .now) (a .s .now) (a .skip) (f .find .ensures) (c .before .at .given .1) in
+    let at-find = c .before .before .before in
+    let start = at-find .before .before .before .before .before in
+    let a = start .args in
+    let e = find-rest (a .from .now) (a .s .now) (a .skip) (at-find .find .ensures) (c .before .at .given .1) in
     omega (arith, find-within _ _ _ e, length-drop (a .skip) (a .from .now))
 
 returns : tie.Need-returns
 returns c =
-    let f = c .before .before .before in
-    let b = f .before .before .before .before .before in
-    let a = b .args in
-    located-at _ _ _ _ _ (b .pre .1) (find-rest (a .from .now) (a .s .now) (a .skip) (f .find .ensures) (c .before .at .given .1))
+    let at-find = c .before .before .before in
+    let start = at-find .before .before .before .before .before in
+    let a = start .args in
+    located-at _ _ _ _ _ (start .pre .1) (find-rest (a .from .now) (a .s .now) (a .skip) (at-find .find .ensures) (c .before .at .given .1))
 
 returns-2 : tie.Need-returns-2
 returns-2 c =
-    let f = c .before .before in
-    let a = f .before .before .before .before .before .args in
-    located-nowhere _ (a .from .now) _ (a .skip) (find-rest-none (a .from .now) (a .s .now) (a .skip) (f .find .ensures) (c .enum-told .given .1))
+    let at-find = c .before .before in
+    let start = at-find .before .before .before .before .before in
+    let a = start .args in
+    located-nowhere _ (a .from .now) _ (a .skip) (find-rest-none (a .from .now) (a .s .now) (a .skip) (at-find .find .ensures) (c .enum-told .given .1))
 
 pub locate-once-spec : {M : Type 1} → statement M
 locate-once-spec =

@@ -6,18 +6,21 @@ use Rattle.names.proofs.rename.replace.Tie as tie
 
 spliced-requires : tie.Need-spliced-requires
 spliced-requires c κs =
-    let l = c .before .before .before in
-    let s = l .before .before .before .before in
-    located-room _ (s .args .from .now) _ (l .locate .ensures) (c .before .at .given .1) (s .pre .0) (s .pre .1) (s .pre .2)
+    let at-locate = c .before .before .before in
+    let start = at-locate .before .before .before .before in
+    located-room _ (start .args .from .now) _ (at-locate .locate .ensures) (c .before .at .given .1) (start .pre .0) (start .pre .1) (start .pre .2)
 
 returns : tie.Need-returns
 returns c =
-    let l = c .before .before .before .before in
-    let s = l .before .before .before .before in
-    renamed-some _ _ _ (l .locate .ensures) (c .before .before .at .given .1) (s .pre .0) (s .pre .1) (s .pre .2) (c .spliced .ensures)
+    let at-at = c .before .before in
+    let at-locate = at-at .before .before in
+    let start = at-locate .before .before .before .before in
+    renamed-some _ _ _ (at-locate .locate .ensures) (at-at .at .given .1) (start .pre .0) (start .pre .1) (start .pre .2) (c .spliced .ensures)
 
 returns-2 : tie.Need-returns-2
-returns-2 c = renamed-none (located-fails (c .before .before .before .locate .ensures) (c .before .enum-told .given .1)) (c .fresh .ensures .0)
+returns-2 c =
+    let at-locate = c .before .before .before in
+    renamed-none (located-fails (at-locate .locate .ensures) (c .before .enum-told .given .1)) (c .fresh .ensures .0)
 
 pub replace-spec : {M : Type 1} → statement M
 replace-spec =

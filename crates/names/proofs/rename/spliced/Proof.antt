@@ -9,26 +9,30 @@ use Rattle.names.proofs.rename.spliced.Statement.{statement}
 use Rattle.names.proofs.rename.spliced.Tie as tie
 
 slice-aggregate-lay : tie.Need-slice-aggregate-lay
-slice-aggregate-lay c = sym (length-take-le _ _ (c .before .before .before .before .before .pre .before))
+slice-aggregate-lay c =
+    let start = c .before .before .before .before .before in
+    sym (length-take-le _ _ (start .pre .before))
 
 lay-requires-2 : tie.Need-lay-requires-2
 lay-requires-2 c κs =
-    let l = c .before .before in
-    wrote-length (l .lay .ensures) ∙ fresh-length (l .before .before .before .fresh .ensures .1)
+    let at-lay = c .before .before in
+    let at-fresh = at-lay .before .before .before in
+    wrote-length (at-lay .lay .ensures) ∙ fresh-length (at-fresh .fresh .ensures .1)
 
 lay-requires-3 : tie.Need-lay-requires-3
 lay-requires-3 c κs =
-    let m = c .before .before in
-    let l = m .before .before .before in
-    wrote-length (l .lay .ensures ⨾ m .lay2 .ensures) ∙ fresh-length (l .before .before .before .fresh .ensures .1)
+    let at-lay2 = c .before .before in
+    let at-lay = at-lay2 .before .before .before in
+    let at-fresh = at-lay .before .before .before in
+    wrote-length (at-lay .lay .ensures ⨾ at-lay2 .lay2 .ensures) ∙ fresh-length (at-fresh .fresh .ensures .1)
 
 returns : tie.Need-returns
 returns c =
-    let m = c .before .before .before in
-    let l = m .before .before .before in
-    let f = l .before .before .before in
-    let s = f .before .before .before in
-    splice-built (s .pre) (fresh-length (f .fresh .ensures .1)) (l .lay .ensures) (m .lay2 .ensures) (c .lay3 .ensures)
+    let at-lay2 = c .before .before .before in
+    let at-lay = at-lay2 .before .before .before in
+    let at-fresh = at-lay .before .before .before in
+    let start = at-fresh .before .before .before in
+    splice-built (start .pre) (fresh-length (at-fresh .fresh .ensures .1)) (at-lay .lay .ensures) (at-lay2 .lay2 .ensures) (c .lay3 .ensures)
 
 pub spliced-spec : {M : Type 1} → statement M
 spliced-spec =

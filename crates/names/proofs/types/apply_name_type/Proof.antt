@@ -9,11 +9,14 @@ returns c = applied-noprefix _ _ (c .ltrim1 .ensures .0) (c .ltrim1 .ensures .1)
 
 returns-2 : tie.Need-returns-2
 returns-2 c =
-    let n = c .before .before in
-    applied-undecorate _ _ (n .ltrim12 .ensures .0) (n .ltrim12 .ensures .1) (n .before .enum-told2 .given .1) (c .index-of .ensures)
+    let at-ltrim12 = c .before .before in
+    let at-enum-told2 = at-ltrim12 .before in
+    applied-undecorate _ _ (at-ltrim12 .ltrim12 .ensures .0) (at-ltrim12 .ltrim12 .ensures .1) (at-enum-told2 .enum-told2 .given .1) (c .index-of .ensures)
 
 returns-3 : tie.Need-returns-3
-returns-3 c = applied-left (c .before .before .args .t) _ (c .match .keys3)
+returns-3 c =
+    let start = c .before .before in
+    applied-left (start .args .t) _ (c .match .keys3)
 
 pub apply-name-type-spec : {M : Type 1} → statement M
 apply-name-type-spec =

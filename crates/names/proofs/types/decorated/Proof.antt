@@ -11,13 +11,15 @@ returns c = sym (three-by _ _ _ (sym (c .before .starts-with .ensures) ∙ not-t
 
 returns-2 : tie.Need-returns-2
 returns-2 c =
-    let one = c .before .before in
-    sym (three-by _ _ _ (sym (one .before .starts-with .ensures) ∙ not-false _ (one .if1 .left)) (sym (c .before .holds .ensures) ∙ not-true _ (c .if2 .taken)))
+    let at-if1 = c .before .before in
+    let at-starts-with = at-if1 .before in
+    sym (three-by _ _ _ (sym (at-starts-with .starts-with .ensures) ∙ not-false _ (at-if1 .if1 .left)) (sym (c .before .holds .ensures) ∙ not-true _ (c .if2 .taken)))
 
 returns-3 : tie.Need-returns-3
 returns-3 c =
-    let one = c .before .before in
-    sym (three-by _ _ _ (sym (one .before .starts-with .ensures) ∙ not-false _ (one .if1 .left)) (sym (c .before .holds .ensures) ∙ not-false _ (c .if2 .left)))
+    let at-if1 = c .before .before in
+    let at-starts-with = at-if1 .before in
+    sym (three-by _ _ _ (sym (at-starts-with .starts-with .ensures) ∙ not-false _ (at-if1 .if1 .left)) (sym (c .before .holds .ensures) ∙ not-false _ (c .if2 .left)))
 
 pub decorated-spec : {M : Type 1} → statement M
 decorated-spec = tie.close

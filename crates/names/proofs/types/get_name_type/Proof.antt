@@ -11,14 +11,16 @@ returns c = plain-decorated _ _ _ _ (sym (c .before .decorated .ensures) ∙ c .
 
 returns-2 : tie.Need-returns-2
 returns-2 c =
-    let c₃ = c .before .before .before in
-    plain-other _ _ _ _ (sym (c₃ .decorated .ensures) ∙ c .before .before .if1 .left) (sym (c .before .same .ensures) ∙ not-true _ (c .if2 .taken))
+    let at-if1 = c .before .before in
+    let at-decorated = at-if1 .before in
+    plain-other _ _ _ _ (sym (at-decorated .decorated .ensures) ∙ at-if1 .if1 .left) (sym (c .before .same .ensures) ∙ not-true _ (c .if2 .taken))
 
 returns-3 : tie.Need-returns-3
 returns-3 c =
-    let c₃ = c .before .before .before in
-    let c₄ = c₃ .before in
-    plain-bare _ _ _ _ (sym (c₄ .decorated .ensures) ∙ c₃ .if1 .left) (sym (c .before .before .same .ensures) ∙ not-false _ (c .before .if2 .left))
+    let at-same = c .before .before in
+    let at-if1 = at-same .before in
+    let at-decorated = at-if1 .before in
+    plain-bare _ _ _ _ (sym (at-decorated .decorated .ensures) ∙ at-if1 .if1 .left) (sym (at-same .same .ensures) ∙ not-false _ (c .before .if2 .left))
     (c .bare-type .ensures)
 
 pub get-name-type-spec : {M : Type 1} → statement M

@@ -10,7 +10,9 @@ returns : tie.Need-returns
 returns c = plain-decorated _ _ _ _ (sym (c .before .decorated .ensures) ∙ c .if1 .taken)
 
 returns-2 : tie.Need-returns-2
-returns-2 c = plain-bare _ _ _ _ (sym (c .before .before .decorated .ensures) ∙ c .before .if1 .left) (same-refl _) (c .bare-type .ensures)
+returns-2 c =
+    let at-decorated = c .before .before in
+    plain-bare _ _ _ _ (sym (at-decorated .decorated .ensures) ∙ c .before .if1 .left) (same-refl _) (c .bare-type .ensures)
 
 pub get-own-type-spec : {M : Type 1} → statement M
 get-own-type-spec = tie.close

@@ -13,24 +13,29 @@ returns c =
 
 returns-2 : tie.Need-returns-2
 returns-2 c =
-    let one = c .before .before in
+    let at-if1 = c .before .before in
+    let at-starts-with = at-if1 .before in
     let e = sym (c .before .starts-with2 .ensures) ∙ c .if2 .taken in
-    (sym (prefixed-by _ (sym (one .before .starts-with .ensures) ∙ one .if1 .left) e refl), starts-some _ _ e)
+    (sym (prefixed-by _ (sym (at-starts-with .starts-with .ensures) ∙ at-if1 .if1 .left) e refl), starts-some _ _ e)
 
 returns-3 : tie.Need-returns-3
 returns-3 c =
-    let two = c .before .before in
-    let one = two .before .before in
+    let at-if2 = c .before .before in
+    let at-starts-with2 = at-if2 .before in
+    let at-if1 = at-starts-with2 .before in
+    let at-starts-with = at-if1 .before in
     let e = sym (c .before .starts-with3 .ensures) ∙ c .if3 .taken in (
-      sym (prefixed-by _ (sym (one .before .starts-with .ensures) ∙ one .if1 .left) (sym (two .before .starts-with2 .ensures) ∙ two .if2 .left) e),
+      sym (prefixed-by _ (sym (at-starts-with .starts-with .ensures) ∙ at-if1 .if1 .left) (sym (at-starts-with2 .starts-with2 .ensures) ∙ at-if2 .if2 .left) e),
       starts-some _ _ e,
     )
 
 returns-4 : tie.Need-returns-4
 returns-4 c =
-    let two = c .before .before in
-    let one = two .before .before in (
-      sym (prefixed-by _ (sym (one .before .starts-with .ensures) ∙ one .if1 .left) (sym (two .before .starts-with2 .ensures) ∙ two .if2 .left)
+    let at-if2 = c .before .before in
+    let at-starts-with2 = at-if2 .before in
+    let at-if1 = at-starts-with2 .before in
+    let one = at-if1 in (
+      sym (prefixed-by _ (sym (one .before .starts-with .ensures) ∙ one .if1 .left) (sym (at-starts-with2 .starts-with2 .ensures) ∙ at-if2 .if2 .left)
           (sym (c .before .starts-with3 .ensures) ∙ c .if3 .left)),
       search needs,
     )

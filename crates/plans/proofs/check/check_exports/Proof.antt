@@ -7,29 +7,32 @@ use Rattle.plans.proofs.check.check_exports.Statement.{statement}
 use Rattle.plans.proofs.check.check_exports.Tie as tie
 
 returns : tie.Need-returns
-returns c = λ compat. accept-1 _ _ (unknown-number _ (sym (c .before .before .find-machine .ensures) ∙ c .enum-told .given .1))
+returns c =
+    let at-find-machine = c .before .before in
+    λ compat. accept-1 _ _ (unknown-number _ (sym (at-find-machine .find-machine .ensures) ∙ c .enum-told .given .1))
 
 returns-2 : tie.Need-returns-2
 returns-2 c =
-    let c₃ = c .before .before .before in
-    let c₅ = c₃ .before .before in
-    let c₇ = c₅ .before .before in
-    λ compat. accept-stop _ _ _ _ (known-number _ _ (sym (c₇ .find-machine .ensures) ∙ c₅ .m .given .1))
-    (sym (c₃ .check-list .ensures) ∙ c .before .list .given .1)
+    let at-check-list = c .before .before .before in
+    let at-m = at-check-list .before .before in
+    let at-find-machine = at-m .before .before in
+    λ compat. accept-stop _ _ _ _ (known-number _ _ (sym (at-find-machine .find-machine .ensures) ∙ at-m .m .given .1))
+    (sym (at-check-list .check-list .ensures) ∙ c .before .list .given .1)
 
 check-both-requires : tie.Need-check-both-requires
 check-both-requires c κs =
-    let c₄ = c .before .before .before .before in
-    let c₆ = c₄ .before .before in
-    (sym (c .before .before .check-list .ensures) ∙ c .enum-told2 .given .1, known-machine _ _ (sym (c₆ .find-machine .ensures) ∙ c₄ .m .given .1) .1)
+    let at-check-list = c .before .before in
+    let at-m = at-check-list .before .before in
+    let at-find-machine = at-m .before .before in
+    (sym (at-check-list .check-list .ensures) ∙ c .enum-told2 .given .1, known-machine _ _ (sym (at-find-machine .find-machine .ensures) ∙ at-m .m .given .1) .1)
 
 returns-3 : tie.Need-returns-3
 returns-3 c =
-    let c₃ = c .before .before .before in
-    let c₅ = c₃ .before .before in
-    let c₇ = c₅ .before .before in
-    λ compat. let k = sym (c₇ .find-machine .ensures) ∙ c₅ .m .given .1 in (rw (known-machine _ _ k .0) at (c .check-both .ensures compat)) ∙
-    accept-on _ _ (known-number _ _ k) (sym (c₃ .check-list .ensures) ∙ c .before .enum-told2 .given .1)
+    let at-check-list = c .before .before .before in
+    let at-m = at-check-list .before .before in
+    let at-find-machine = at-m .before .before in
+    λ compat. let k = sym (at-find-machine .find-machine .ensures) ∙ at-m .m .given .1 in (rw (known-machine _ _ k .0) at (c .check-both .ensures compat)) ∙
+    accept-on _ _ (known-number _ _ k) (sym (at-check-list .check-list .ensures) ∙ c .before .enum-told2 .given .1)
 
 pub check-exports-spec : {M : Type 1} → statement M
 check-exports-spec =

@@ -20,21 +20,26 @@ loop-holds : tie.Need-loop-holds Inv-loop μ-loop
 loop-holds c = (search needs, refl)
 
 check-name-requires : tie.Need-check-name-requires Inv-loop μ-loop
-check-name-requires c κs = let d = c .before .before .before in held _ _ (d .pre .0) (omega arith)
+check-name-requires c κs =
+    let start = c .before .before .before in
+    let d = start in held _ _ (d .pre .0) (omega arith)
 
 returns : tie.Need-returns Inv-loop μ-loop
 returns c =
-    let c₃ = c .before .before .before in
-    let c₄ = c₃ .before in
-    let c₅ = c₄ .before in
-    sym (c₅ .loop .inv .1 ∙ rows-stop _ _ _ _ _ (c₄ .loop-test .taken) (sym (c₃ .check-name .ensures) ∙ c .before .checked .given .1))
+    let at-check-name = c .before .before .before in
+    let at-loop-test = at-check-name .before in
+    let at-loop = at-loop-test .before in
+    sym (at-loop .loop .inv .1 ∙ rows-stop _ _ _ _ _ (at-loop-test .loop-test .taken) (sym (at-check-name .check-name .ensures) ∙ c .before .checked .given .1))
 
 loop-again : tie.Need-loop-again Inv-loop μ-loop
-loop-again c = (
-  search needs,
-  c .before .before .before .before .loop .inv .1
-      ∙ rows-more _ _ _ (c .before .before .before .loop-test .taken) (sym (c .before .before .check-name .ensures) ∙ c .enum-told .given .1),
-)
+loop-again c =
+    let at-check-name = c .before .before in
+    let at-loop-test = at-check-name .before in
+    let at-loop = at-loop-test .before in (
+      search needs,
+      at-loop .loop .inv .1
+          ∙ rows-more _ _ _ (at-loop-test .loop-test .taken) (sym (at-check-name .check-name .ensures) ∙ c .enum-told .given .1),
+    )
 
 returns-2 : tie.Need-returns-2 Inv-loop μ-loop
 returns-2 c = sym (c .before .loop .inv .1 ∙ rows-end _ _ _ (c .loop-test .left))

@@ -15,43 +15,48 @@ returns c = key-private _ _ _ _ _ (sym (c .before .is-private .ensures) ∙ c .i
 
 returns-2 : tie.Need-returns-2
 returns-2 c =
-    let c₃ = c .before .before .before in
-    let c₄ = c₃ .before in
-    let c₅ = c₄ .before in
-    c .key-named .ensures ∙ key-by _ _ _ _ _ _ (sym (c₅ .is-private .ensures) ∙ c₄ .if1 .left)
-    (public-base _ _ (sym (c₃ .absent .ensures) ∙ c .before .before .if2 .taken) ∙ ap some (sym (c .before .base .ensures)))
+    let at-if2 = c .before .before in
+    let at-absent = at-if2 .before in
+    let at-if1 = at-absent .before in
+    let at-is-private = at-if1 .before in
+    c .key-named .ensures ∙ key-by _ _ _ _ _ _ (sym (at-is-private .is-private .ensures) ∙ at-if1 .if1 .left)
+    (public-base _ _ (sym (at-absent .absent .ensures) ∙ at-if2 .if2 .taken) ∙ ap some (sym (c .before .base .ensures)))
 
 replace-requires : tie.Need-replace-requires
-replace-requires c κs = let h = c .before .before .before .before .before .before .before .before .before .pre .0 in (
-  omega (arith, ap length (c .before .before .base2 .ensures), base-length _ _ h),
-  omega (arith, ap length (c .before .string .ensures), string-length _ _ 0 h (omega arith), h .named),
-  omega (arith, ap length (c .string2 .ensures), string-length _ _ 1 h (omega arith), h .few 1 (omega arith)),
-)
+replace-requires c κs =
+    let at-base2 = c .before .before in
+    let start = at-base2 .before .before .before .before .before .before .before in
+    let h = start .pre .0 in (
+      omega (arith, ap length (at-base2 .base2 .ensures), base-length _ _ h),
+      omega (arith, ap length (c .before .string .ensures), string-length _ _ 0 h (omega arith), h .named),
+      omega (arith, ap length (c .string2 .ensures), string-length _ _ 1 h (omega arith), h .few 1 (omega arith)),
+    )
 
 returns-3 : tie.Need-returns-3
 returns-3 c =
-    let c₃ = c .before .before .before in
-    let c₄ = c₃ .before in
-    let c₅ = c₄ .before in
-    let c₆ = c₅ .before in
-    let c₇ = c₆ .before in
-    let c₈ = c₇ .before in
-    key-11 _ _ _ _ _ (sym (c₈ .is-private .ensures) ∙ c₇ .if1 .left)
-    (public-renamed _ _ _ _ _ _ (sym (c₆ .absent .ensures) ∙ c₅ .if2 .left) (c₄ .base2 .ensures) (c₃ .string .ensures) (c .before .before .string2 .ensures) (c .before .replace .ensures .fails (not-true _ (c .if3 .taken))))
+    let at-string2 = c .before .before in
+    let at-string = at-string2 .before in
+    let at-base2 = at-string .before in
+    let at-if2 = at-base2 .before in
+    let at-absent = at-if2 .before in
+    let at-if1 = at-absent .before in
+    let at-is-private = at-if1 .before in
+    key-11 _ _ _ _ _ (sym (at-is-private .is-private .ensures) ∙ at-if1 .if1 .left)
+    (public-renamed _ _ _ _ _ _ (sym (at-absent .absent .ensures) ∙ at-if2 .if2 .left) (at-base2 .base2 .ensures) (at-string .string .ensures) (at-string2 .string2 .ensures) (c .before .replace .ensures .fails (not-true _ (c .if3 .taken))))
 
 returns-4 : tie.Need-returns-4
 returns-4 c =
-    let c₄ = c .before .before .before .before in
-    let c₅ = c₄ .before in
-    let c₆ = c₅ .before in
-    let c₇ = c₆ .before in
-    let c₈ = c₇ .before in
-    let c₉ = c₈ .before in
-    let c₁₀ = c₉ .before in
-    let c₁₁ = c₁₀ .before in
-    let c₁₂ = c₁₁ .before in
-    c .key-named2 .ensures ∙ key-by _ _ _ _ _ _ (sym (c₁₂ .is-private .ensures) ∙ c₁₁ .if1 .left)
-    (public-renamed _ _ _ _ _ _ (sym (c₁₀ .absent .ensures) ∙ c₉ .if2 .left) (c₈ .base2 .ensures) (c₇ .string .ensures) (c₆ .string2 .ensures) (c₅ .replace .ensures .given (not-false _ (c₄ .if3 .left))))
+    let at-if3 = c .before .before .before .before in
+    let at-replace = at-if3 .before in
+    let at-string2 = at-replace .before in
+    let at-string = at-string2 .before in
+    let at-base2 = at-string .before in
+    let at-if2 = at-base2 .before in
+    let at-absent = at-if2 .before in
+    let at-if1 = at-absent .before in
+    let at-is-private = at-if1 .before in
+    c .key-named2 .ensures ∙ key-by _ _ _ _ _ _ (sym (at-is-private .is-private .ensures) ∙ at-if1 .if1 .left)
+    (public-renamed _ _ _ _ _ _ (sym (at-absent .absent .ensures) ∙ at-if2 .if2 .left) (at-base2 .base2 .ensures) (at-string .string .ensures) (at-string2 .string2 .ensures) (at-replace .replace .ensures .given (not-false _ (at-if3 .if3 .left))))
 
 pub key-is-spec : {M : Type 1} → statement M
 key-is-spec =

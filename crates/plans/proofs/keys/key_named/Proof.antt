@@ -8,15 +8,20 @@ use Rattle.plans.proofs.keys.key_named.Tie as tie
 
 returns : tie.Need-returns
 returns c =
-    let c₄ = c .before .before .before .before in
-    let c₈ = c₄ .before .before .before .before in
-    key-short _ _ _ _ _ _ _ _ _ (c₈ .pre .1) (ap (shaped _ _) (sym (c .before .before .name-type .given .1)) ∙ c₄ .plan .ensures) (c .gives .ensures)
+    let at-name-type = c .before .before in
+    let at-plan = at-name-type .before .before in
+    let start = at-plan .before .before .before .before in
+    key-short _ _ _ _ _ _ _ _ _ (start .pre .1) (ap (shaped _ _) (sym (at-name-type .name-type .given .1)) ∙ at-plan .plan .ensures) (c .gives .ensures)
 
 returns-2 : tie.Need-returns-2
-returns-2 c = key-deferred _ _ _ _ (ap (shaped _ _) (sym (c .enum-told .given .1)) ∙ c .before .before .plan .ensures)
+returns-2 c =
+    let at-plan = c .before .before in
+    key-deferred _ _ _ _ (ap (shaped _ _) (sym (c .enum-told .given .1)) ∙ at-plan .plan .ensures)
 
 returns-3 : tie.Need-returns-3
-returns-3 c = key-refused _ _ _ _ _ (ap (shaped _ _) (sym (c .enum-told2 .given .1)) ∙ c .before .before .plan .ensures)
+returns-3 c =
+    let at-plan = c .before .before in
+    key-refused _ _ _ _ _ (ap (shaped _ _) (sym (c .enum-told2 .given .1)) ∙ at-plan .plan .ensures)
 
 pub key-named-spec : {M : Type 1} → statement M
 key-named-spec =

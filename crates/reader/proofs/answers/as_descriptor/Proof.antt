@@ -7,20 +7,21 @@ use Rattle.reader.proofs.answers.as_descriptor.Tie as tie
 
 find-import-descriptor-requires : tie.Need-find-import-descriptor-requires
 find-import-descriptor-requires c κs =
-    let p = c .before .before .before .pre in
+    let start = c .before .before .before in
+    let p = start .pre in
     (p .0 .machine, (dll-most 255 _ (p .1 .0) (omega arith), p .1 .1))
 
 returns : tie.Need-returns
 returns c =
-    let s = c .before .before .before .before .before in
-    let p = s .pre in
+    let start = c .before .before .before .before .before in
+    let p = start .pre in
     lost _ _ (admits-descriptor _ _ _ (p .0 .ordinary) (p .1 .0)) (c .before .find-import-descriptor .ensures) (c .if1 .taken)
 
 returns-2 : tie.Need-returns-2
 returns-2 c =
-    let s = c .before .before .before .before .before in
-    let a = s .args in
-    let p = s .pre in
+    let start = c .before .before .before .before .before in
+    let a = start .args in
+    let p = start .pre in
     found _ _ (admits-descriptor _ _ _ (p .0 .ordinary) (p .1 .0)) (c .before .find-import-descriptor .ensures) (c .if1 .left)
     (descriptor-fields (a .machine .number) (a .dll .now) (a .compat) (a .stem .now) (p .1 .1))
 

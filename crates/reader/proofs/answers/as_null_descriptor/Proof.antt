@@ -7,15 +7,15 @@ use Rattle.reader.proofs.answers.as_null_descriptor.Tie as tie
 
 returns : tie.Need-returns
 returns c =
-    let s = c .before .before .before .before in
-    let m = s .args .machine .number in
-    lost _ _ (admits-null m (s .pre .ordinary)) (null-plain m [] (c .before .find-null-import-descriptor .ensures)) (c .if1 .taken)
+    let start = c .before .before .before .before in
+    let m = start .args .machine .number in
+    lost _ _ (admits-null m (start .pre .ordinary)) (null-plain m [] (c .before .find-null-import-descriptor .ensures)) (c .if1 .taken)
 
 returns-2 : tie.Need-returns-2
 returns-2 c =
-    let s = c .before .before .before .before in
-    let m = s .args .machine .number in
-    found _ _ (admits-null m (s .pre .ordinary)) (null-plain m [] (c .before .find-null-import-descriptor .ensures)) (c .if1 .left) (null-fields m)
+    let start = c .before .before .before .before in
+    let m = start .args .machine .number in
+    found _ _ (admits-null m (start .pre .ordinary)) (null-plain m [] (c .before .find-null-import-descriptor .ensures)) (c .if1 .left) (null-fields m)
 
 pub as-null-descriptor-spec : {M : Type 1} → statement M
 as-null-descriptor-spec =

@@ -11,36 +11,41 @@ use Rattle.reader.proofs.answers.as_short.Statement.{statement}
 use Rattle.reader.proofs.answers.as_short.Tie as tie
 
 admits-names-requires : tie.Need-admits-names-requires
-admits-names-requires c κs = let p = c .before .before .before .pre in (clear-as _ _ (p .1 .1 .0), clear-as _ _ (p .1 .1 .1))
+admits-names-requires c κs =
+    let start = c .before .before .before in
+    let p = start .pre in (clear-as _ _ (p .1 .1 .0), clear-as _ _ (p .1 .1 .1))
 
 returns : tie.Need-returns
 returns c =
-    let c₄ = c .before .before .before .before in
-    let s = c₄ .before in let a = s .args in let o : a .ordinal < 65536 = search needs in let p = s .pre in barred _ _
+    let start = c .before .before .before .before .before in
+    let s = start in let a = s .args in let o : a .ordinal < 65536 = search needs in let p = s .pre in barred _ _
     (short-unfit (a .machine) (a .ordinal) (a .types % 4) (a .types / 4) (a .symbol .now) (a .dll .now) [] (p .0) o (sym (c .before .admits-names .ensures) ∙ not-true _ (c .if1 .taken)))
 
 find-short-requires : tie.Need-find-short-requires
 find-short-requires c κs =
-    let c₅ = c .before .before .before .before .before in
-    (names-most 65536 _ _ (sym (c .before .admits-names .ensures) ∙ not-false _ (c .if1 .left)) (omega arith), c₅ .pre .1 .1)
+    let start = c .before .before .before .before .before in
+    (names-most 65536 _ _ (sym (c .before .admits-names .ensures) ∙ not-false _ (c .if1 .left)) (omega arith), start .pre .1 .1)
 
 returns-2 : tie.Need-returns-2
 returns-2 c =
-    let c₃ = c .before .before .before in
-    let c₆ = c₃ .before .before .before in
-    let s = c₆ .before in let a = s .args in let o : a .ordinal < 65536 = search needs in let p = s .pre in let n = sym (c₃ .admits-names .ensures) ∙
-    not-false _ (c .before .before .if1 .left) in lost _ _
+    let at-if1 = c .before .before in
+    let at-admits-names = at-if1 .before in
+    let start = at-admits-names .before .before .before .before in
+    let s = start in let a = s .args in let o : a .ordinal < 65536 = search needs in let p = s .pre in let n = sym (at-admits-names .admits-names .ensures) ∙
+    not-false _ (at-if1 .if1 .left) in lost _ _
     (short-unexported (a .machine) (a .ordinal) (a .types % 4) (a .types / 4) (a .symbol .now) (a .dll .now) (p .0) o n (p .1 .0))
     (short-found (a .machine) (a .ordinal) (a .types) (a .symbol .now) (a .dll .now) (p .1 .0) (c .before .find-short .ensures))
     (λ e. omega (arith, c .if2 .taken))
 
 returns-3 : tie.Need-returns-3
 returns-3 c =
-    let s = c .before .before .before .before .before .before .before in
-    let a = s .args in
+    let at-if1 = c .before .before in
+    let at-admits-names = at-if1 .before in
+    let start = at-admits-names .before .before .before .before in
+    let a = start .args in
     let o : a .ordinal < 65536 = search needs in
-    let p = s .pre in
-    let n = sym (c .before .before .before .admits-names .ensures) ∙ not-false _ (c .before .before .if1 .left) in
+    let p = start .pre in
+    let n = sym (at-admits-names .admits-names .ensures) ∙ not-false _ (at-if1 .if1 .left) in
     found _ _ (short-unexported (a .machine) (a .ordinal) (a .types % 4) (a .types / 4) (a .symbol .now) (a .dll .now) (p .0) o n (p .1 .0))
     (short-found (a .machine) (a .ordinal) (a .types) (a .symbol .now) (a .dll .now) (p .1 .0) (c .before .find-short .ensures)) (c .if2 .left)
     (short-fields (a .machine) (a .ordinal) (a .types % 4) (a .types / 4) (a .symbol .now) (a .dll .now) [] (p .1 .0))

@@ -10,58 +10,70 @@ use Rattle.reader.proofs.answers.as_short_as.Statement.{statement}
 use Rattle.reader.proofs.answers.as_short_as.Tie as tie
 
 admits-names-requires : tie.Need-admits-names-requires
-admits-names-requires c κs = let p = c .before .before .before .before .pre in (clear-as _ _ (p .1 .1 .0), clear-as _ _ (p .1 .1 .1 .0))
+admits-names-requires c κs =
+    let start = c .before .before .before .before in
+    let p = start .pre in (clear-as _ _ (p .1 .1 .0), clear-as _ _ (p .1 .1 .1 .0))
 
 returns : tie.Need-returns
 returns c =
-    let c₅ = c .before .before .before .before .before in
-    let s = c₅ .before in let a = s .args in let o : a .ordinal < 65536 = search needs in let p = s .pre in barred _ _
+    let start = c .before .before .before .before .before .before in
+    let s = start in let a = s .args in let o : a .ordinal < 65536 = search needs in let p = s .pre in barred _ _
     (short-unfit (a .machine) (a .ordinal) (a .types % 4) (a .types / 4) (a .symbol .now) (a .dll .now) (a .export .now) (p .0) o (sym (c .before .admits-names .ensures) ∙ not-true _ (c .if1 .taken)))
 
 fits-requires : tie.Need-fits-requires
-fits-requires c κs = clear-as _ _ (c .before .before .before .before .before .before .pre .1 .1 .1 .1)
+fits-requires c κs =
+    let start = c .before .before .before .before .before .before in
+    clear-as _ _ (start .pre .1 .1 .1 .1)
 
 returns-2 : tie.Need-returns-2
 returns-2 c =
-    let c₃ = c .before .before .before in
-    let c₇ = c₃ .before .before .before .before in
-    let s = c₇ .before in let a = s .args in let o : a .ordinal < 65536 = search needs in let p = s .pre in let n = sym (c₃ .admits-names .ensures) ∙
-    not-false _ (c .before .before .if1 .left) in barred _ _
+    let at-if1 = c .before .before in
+    let at-admits-names = at-if1 .before in
+    let start = at-admits-names .before .before .before .before .before in
+    let s = start in let a = s .args in let o : a .ordinal < 65536 = search needs in let p = s .pre in let n = sym (at-admits-names .admits-names .ensures) ∙
+    not-false _ (at-if1 .if1 .left) in barred _ _
     (short-exported-by (a .machine) (a .ordinal) (a .types % 4) (a .types / 4) (a .symbol .now) (a .dll .now) (a .export .now) (p .0) o n (p .1 .0) (sym (c .before .fits2 .ensures) ∙ not-true _ (c .if2 .taken)))
 
 find-short-as-requires : tie.Need-find-short-as-requires
 find-short-as-requires c κs =
-    let p = c .before .before .before .before .before .before .before .before .pre in
-    let n = sym (c .before .before .before .admits-names .ensures) ∙ not-false _ (c .before .before .if1 .left) in
+    let at-if1 = c .before .before in
+    let at-admits-names = at-if1 .before in
+    let start = at-admits-names .before .before .before .before .before in
+    let p = start .pre in
+    let n = sym (at-admits-names .admits-names .ensures) ∙ not-false _ (at-if1 .if1 .left) in
     let x = sym (c .before .fits2 .ensures) ∙ not-false _ (c .if2 .left) in
     (names-most 65536 _ _ n (omega arith), (p .1 .1 .0, (p .1 .1 .1 .0, (between-most 1 8190 65536 _ x (omega arith), p .1 .1 .1 .1))))
 
 returns-3 : tie.Need-returns-3
 returns-3 c =
-    let c₃ = c .before .before .before in
-    let c₄ = c₃ .before in
-    let c₅ = c₄ .before in
-    let c₉ = c₅ .before .before .before .before in
-    let s = c₉ .before in let a = s .args in let o : a .ordinal < 65536 = search needs in let p = s .pre in let n = sym (c₅ .admits-names .ensures) ∙
-    not-false _ (c₄ .if1 .left) in let x = sym (c₃ .fits2 .ensures) ∙ not-false _ (c .before .before .if2 .left) in lost _ _
+    let at-if2 = c .before .before in
+    let at-fits2 = at-if2 .before in
+    let at-if1 = at-fits2 .before in
+    let at-admits-names = at-if1 .before in
+    let start = at-admits-names .before .before .before .before .before in
+    let s = start in let a = s .args in let o : a .ordinal < 65536 = search needs in let p = s .pre in let n = sym (at-admits-names .admits-names .ensures) ∙
+    not-false _ (at-if1 .if1 .left) in let x = sym (at-fits2 .fits2 .ensures) ∙ not-false _ (at-if2 .if2 .left) in lost _ _
     (short-exported-by (a .machine) (a .ordinal) (a .types % 4) (a .types / 4) (a .symbol .now) (a .dll .now) (a .export .now) (p .0) o n (p .1 .0) x)
     (short-as-found (a .machine) (a .ordinal) (a .types) (a .symbol .now) (a .dll .now) (a .export .now) (p .1 .0) (c .before .find-short-as .ensures))
     (c .if3 .taken)
 
 add-t24 : tie.Need-add-t24
 add-t24 c =
-    let n = sym (c .before .before .before .before .before .admits-names .ensures) ∙ not-false _ (c .before .before .before .before .if1 .left) in
+    let at-if1 = c .before .before .before .before in
+    let at-admits-names = at-if1 .before in
+    let n = sym (at-admits-names .admits-names .ensures) ∙ not-false _ (at-if1 .if1 .left) in
     let (h, k) = names-most 8190 _ _ n (omega arith) in
     omega (arith, h, k)
 
 returns-4 : tie.Need-returns-4
 returns-4 c =
-    let c₃ = c .before .before .before in
-    let c₄ = c₃ .before in
-    let c₅ = c₄ .before in
-    let c₉ = c₅ .before .before .before .before in
-    let s = c₉ .before in let a = s .args in let o : a .ordinal < 65536 = search needs in let p = s .pre in let n = sym (c₅ .admits-names .ensures) ∙
-    not-false _ (c₄ .if1 .left) in let x = sym (c₃ .fits2 .ensures) ∙ not-false _ (c .before .before .if2 .left) in found _ _
+    let at-if2 = c .before .before in
+    let at-fits2 = at-if2 .before in
+    let at-if1 = at-fits2 .before in
+    let at-admits-names = at-if1 .before in
+    let start = at-admits-names .before .before .before .before .before in
+    let s = start in let a = s .args in let o : a .ordinal < 65536 = search needs in let p = s .pre in let n = sym (at-admits-names .admits-names .ensures) ∙
+    not-false _ (at-if1 .if1 .left) in let x = sym (at-fits2 .fits2 .ensures) ∙ not-false _ (at-if2 .if2 .left) in found _ _
     (short-exported-by (a .machine) (a .ordinal) (a .types % 4) (a .types / 4) (a .symbol .now) (a .dll .now) (a .export .now) (p .0) o n (p .1 .0) x)
     (short-as-found (a .machine) (a .ordinal) (a .types) (a .symbol .now) (a .dll .now) (a .export .now) (p .1 .0) (c .before .find-short-as .ensures))
     (c .if3 .left) (short-as-fields (a .machine) (a .ordinal) (a .types % 4) (a .types / 4) (a .symbol .now) (a .dll .now) (a .export .now) (p .1 .0))

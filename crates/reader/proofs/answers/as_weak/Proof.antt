@@ -9,28 +9,37 @@ use Rattle.reader.proofs.answers.as_weak.Statement.{statement}
 use Rattle.reader.proofs.answers.as_weak.Tie as tie
 
 fits-requires : tie.Need-fits-requires
-fits-requires c κs = clear-as _ _ (c .before .before .before .pre .1 .0)
+fits-requires c κs =
+    let start = c .before .before .before in
+    clear-as _ _ (start .pre .1 .0)
 
 returns : tie.Need-returns
 returns c =
-    let p = c .before .before .before .before .before .pre in
+    let start = c .before .before .before .before .before in
+    let p = start .pre in
     barred _ _ (weak-unfit _ _ _ (p .0) (sym (c .before .fits2 .ensures) ∙ not-true _ (c .if1 .taken)))
 
 fits-requires-2 : tie.Need-fits-requires-2
-fits-requires-2 c κs = clear-as _ _ (c .before .before .before .before .before .pre .1 .1)
+fits-requires-2 c κs =
+    let start = c .before .before .before .before .before in
+    clear-as _ _ (start .pre .1 .1)
 
 returns-2 : tie.Need-returns-2
 returns-2 c =
-    let c₁ = c .before .before in
-    let p = c₁ .before .before .before .before .before .pre in
-    barred _ _ (admits-weak _ _ _ (p .0) (sym (c₁ .before .fits2 .ensures) ∙ not-false _ (c₁ .if1 .left)) (sym (c .before .fits3 .ensures) ∙ not-true _ (c .if2 .taken)))
+    let at-if1 = c .before .before in
+    let at-fits2 = at-if1 .before in
+    let start = at-fits2 .before .before .before .before in
+    let p = start .pre in
+    barred _ _ (admits-weak _ _ _ (p .0) (sym (at-fits2 .fits2 .ensures) ∙ not-false _ (at-if1 .if1 .left)) (sym (c .before .fits3 .ensures) ∙ not-true _ (c .if2 .taken)))
 
 find-weak-external-requires : tie.Need-find-weak-external-requires
 find-weak-external-requires c κs =
-    let c₁ = c .before .before in
-    let p = c₁ .before .before .before .before .before .pre in (
+    let at-if1 = c .before .before in
+    let at-fits2 = at-if1 .before in
+    let start = at-fits2 .before .before .before .before in
+    let p = start .pre in (
       (
-        between-most 1 8195 65536 _ (sym (c₁ .before .fits2 .ensures) ∙ not-false _ (c₁ .if1 .left)) (omega arith),
+        between-most 1 8195 65536 _ (sym (at-fits2 .fits2 .ensures) ∙ not-false _ (at-if1 .if1 .left)) (omega arith),
         between-most 1 8195 65536 _ (sym (c .before .fits3 .ensures) ∙ not-false _ (c .if2 .left)) (omega arith),
       ),
       p .1,
@@ -38,19 +47,24 @@ find-weak-external-requires c κs =
 
 returns-3 : tie.Need-returns-3
 returns-3 c =
-    let c₂ = c .before .before in
-    let c₁ = c₂ .before .before in
-    let p = c₁ .before .before .before .before .before .pre in
-    lost _ _ (admits-weak _ _ _ (p .0) (sym (c₁ .before .fits2 .ensures) ∙ not-false _ (c₁ .if1 .left)) (sym (c₂ .before .fits3 .ensures) ∙ not-false _ (c₂ .if2 .left)))
+    let at-if2 = c .before .before in
+    let at-fits3 = at-if2 .before in
+    let at-if1 = at-fits3 .before in
+    let at-fits2 = at-if1 .before in
+    let start = at-fits2 .before .before .before .before in
+    let p = start .pre in
+    lost _ _ (admits-weak _ _ _ (p .0) (sym (at-fits2 .fits2 .ensures) ∙ not-false _ (at-if1 .if1 .left)) (sym (at-fits3 .fits3 .ensures) ∙ not-false _ (at-if2 .if2 .left)))
     (c .before .find-weak-external .ensures) (c .if3 .taken)
 
 returns-4 : tie.Need-returns-4
 returns-4 c =
-    let c₂ = c .before .before in
-    let c₁ = c₂ .before .before in
-    let s = c₁ .before .before .before .before .before in
-    let a = s .args in
-    found _ _ (admits-weak _ _ _ (s .pre .0) (sym (c₁ .before .fits2 .ensures) ∙ not-false _ (c₁ .if1 .left)) (sym (c₂ .before .fits3 .ensures) ∙ not-false _ (c₂ .if2 .left)))
+    let at-if2 = c .before .before in
+    let at-fits3 = at-if2 .before in
+    let at-if1 = at-fits3 .before in
+    let at-fits2 = at-if1 .before in
+    let start = at-fits2 .before .before .before .before in
+    let a = start .args in
+    found _ _ (admits-weak _ _ _ (start .pre .0) (sym (at-fits2 .fits2 .ensures) ∙ not-false _ (at-if1 .if1 .left)) (sym (at-fits3 .fits3 .ensures) ∙ not-false _ (at-if2 .if2 .left)))
     (c .before .find-weak-external .ensures) (c .if3 .left) (weak-fields (a .machine) (a .target .now) (a .alias .now))
 
 pub as-weak-spec : {M : Type 1} → statement M

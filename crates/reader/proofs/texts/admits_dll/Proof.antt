@@ -10,7 +10,9 @@ returns : tie.Need-returns
 returns c = dll-unfit _ (sym (c .before .fits2 .ensures) ∙ not-true _ (c .if1 .taken))
 
 returns-2 : tie.Need-returns-2
-returns-2 c = dll-by _ (sym (c .before .before .fits2 .ensures) ∙ not-false _ (c .before .if1 .left)) (c .barred .ensures)
+returns-2 c =
+    let at-fits2 = c .before .before in
+    dll-by _ (sym (at-fits2 .fits2 .ensures) ∙ not-false _ (c .before .if1 .left)) (c .barred .ensures)
 
 pub admits-dll-spec : {M : Type 1} → statement M
 admits-dll-spec = tie.close

@@ -10,7 +10,9 @@ returns : tie.Need-returns
 returns c = names-unfit _ _ (sym (c .before .fits2 .ensures) ∙ not-true _ (c .if1 .taken))
 
 returns-2 : tie.Need-returns-2
-returns-2 c = names-by _ _ (sym (c .before .before .fits2 .ensures) ∙ not-false _ (c .before .if1 .left)) (c .admits-dll .ensures)
+returns-2 c =
+    let at-fits2 = c .before .before in
+    names-by _ _ (sym (at-fits2 .fits2 .ensures) ∙ not-false _ (c .before .if1 .left)) (c .admits-dll .ensures)
 
 pub admits-names-spec : {M : Type 1} → statement M
 admits-names-spec = tie.close

@@ -9,7 +9,9 @@ returns : tie.Need-returns
 returns c = ordinary-hybrid _ (sym (c .before .is-arm64ec .ensures) ∙ c .if1 .taken)
 
 returns-2 : tie.Need-returns-2
-returns-2 c = c .find-machine .ensures ∙ ordinary-other _ (sym (c .before .before .is-arm64ec .ensures) ∙ c .before .if1 .left)
+returns-2 c =
+    let at-is-arm64ec = c .before .before in
+    c .find-machine .ensures ∙ ordinary-other _ (sym (at-is-arm64ec .is-arm64ec .ensures) ∙ c .before .if1 .left)
 
 pub ordinary-machine-spec : {M : Type 1} → statement M
 ordinary-machine-spec =

@@ -14,7 +14,9 @@ part-requires-3 : tie.Need-part-requires-3
 part-requires-3 c κs = omega (arith, c .index-of .ensures, length-before 0 (c .before .part2 .result .now))
 
 returns-2 : tie.Need-returns-2
-returns-2 c = text-first _ _ _ (omega arith) (c .before .before .part2 .ensures) (c .before .index-of .ensures) (c .part3 .ensures)
+returns-2 c =
+    let at-part2 = c .before .before in
+    text-first _ _ _ (omega arith) (at-part2 .part2 .ensures) (c .before .index-of .ensures) (c .part3 .ensures)
 
 pub text-spec : {M : Type 1} → statement M
 text-spec =

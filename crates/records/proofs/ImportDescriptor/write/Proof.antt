@@ -7,7 +7,9 @@ use Rattle.records.proofs.ImportDescriptor.write.Tie as tie
 
 returns : tie.Need-returns
 unfolding importDescriptor join
-returns c = c .before .before .put-zeros .ensures
+returns c =
+    let at-put-zeros = c .before .before in
+    at-put-zeros .put-zeros .ensures
 
 pub write-spec : {M : Type 1} → statement M
 write-spec = tie.close

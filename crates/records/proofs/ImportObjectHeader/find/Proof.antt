@@ -5,7 +5,9 @@ use Rattle.records.proofs.ImportObjectHeader.find.Statement.{statement}
 use Rattle.records.proofs.ImportObjectHeader.find.Tie as tie
 
 returns : tie.Need-returns
-returns c = found-as (c .before .before .bytes .ensures) (c .find-words .ensures)
+returns c =
+    let at-bytes = c .before .before in
+    found-as (at-bytes .bytes .ensures) (c .find-words .ensures)
 
 pub find-spec : {M : Type 1} → statement M
 find-spec = tie.close

@@ -5,7 +5,10 @@ use Rattle.records.proofs.Relocation.write.Statement.{statement}
 use Rattle.records.proofs.Relocation.write.Tie as tie
 
 returns : tie.Need-returns
-returns c = wrote-as (c .before .before .before .before .before .bytes .ensures) (c .before .before .put .ensures)
+returns c =
+    let at-put = c .before .before in
+    let at-bytes = at-put .before .before .before in
+    wrote-as (at-bytes .bytes .ensures) (at-put .put .ensures)
 
 pub write-spec : {M : Type 1} → statement M
 write-spec =

@@ -12,7 +12,8 @@ use Rattle.records.proofs.Symbol.bytes.Tie as tie
 returns : tie.Need-returns
 unfolding symbol join
 returns c =
-    let s = c .before .before .before .args .self in
+    let start = c .before .before .before in
+    let s = start .args .self in
     let z = s .«section_number» in
     let back : toZ w16 (ofZ w16 z) ≡ z = search needs in
     let e : c .word .result ≡ word z = c .word .ensures ∙ ap word back in

@@ -9,11 +9,11 @@ use Rattle.records.proofs.Symbol.read.Tie as tie
 
 returns : tie.Need-returns
 returns c =
-    let c₃ = c .before .before in
-    let c₂ = c₃ .before in
-    let c₁ = c₂ .before in
-    let back : toZ w16 (ofZ w16 (c₃ .signed .result)) ≡ c₃ .signed .result = toZ-ofZ {w = w16} (record { sfits = c₃ .signed .ok }) in
-    rw (back, c₃ .signed .ensures, c₂ .u16-at .ensures, c₁ .name-at .ensures)
+    let at-signed = c .before .before in
+    let at-u16-at = at-signed .before in
+    let at-name-at = at-u16-at .before in
+    let back : toZ w16 (ofZ w16 (at-signed .signed .result)) ≡ at-signed .signed .result = toZ-ofZ {w = w16} (record { sfits = at-signed .signed .ok }) in
+    rw (back, at-signed .signed .ensures, at-u16-at .u16-at .ensures, at-name-at .name-at .ensures)
 
 pub read-spec : {M : Type 1} → statement M
 read-spec =

@@ -5,24 +5,29 @@ use Rattle.walks.proofs.pen.draw_null_descriptor.Statement.{statement}
 use Rattle.walks.proofs.pen.draw_null_descriptor.Tie as tie
 
 moved-requires : tie.Need-moved-requires
-moved-requires c κs = room-one (c .before .before .before .before .pre .0) (c .before .null-descriptor-size .ensures _)
+moved-requires c κs =
+    let start = c .before .before .before .before in
+    room-one (start .pre .0) (c .before .null-descriptor-size .ensures _)
 
 returns : tie.Need-returns
-returns c = drew-empty _ (c .before .before .null-descriptor-size .ensures _) (c .before .if1 .taken) (c .moved .ensures .0) (c .moved .ensures .1)
+returns c =
+    let at-null-descriptor-size = c .before .before in
+    drew-empty _ (at-null-descriptor-size .null-descriptor-size .ensures _) (c .before .if1 .taken) (c .moved .ensures .0) (c .moved .ensures .1)
 
 noted-requires : tie.Need-noted-requires
 noted-requires c κs =
-    let c₇ = c .before .before .before .before .before .before .before in
-    let c₁₀ = c₇ .before .before .before in
-    room-one (c₁₀ .pre .0) (c₇ .null-descriptor-size .ensures _)
+    let at-null-descriptor-size = c .before .before .before .before .before .before .before in
+    let start = at-null-descriptor-size .before .before .before in
+    room-one (start .pre .0) (at-null-descriptor-size .null-descriptor-size .ensures _)
 
 returns-2 : tie.Need-returns-2
 returns-2 c =
-    let c₆ = c .before .before .before .before .before .before in
-    let c₈ = c₆ .before .before in
-    let c₁₀ = c₈ .before .before in
-    drew-noted _ (c₁₀ .null-descriptor-size .ensures _) (c₈ .at-of .ensures) (c₆ .create-null-import-descriptor .ensures)
-    (c .before .before .noted .ensures)
+    let at-noted = c .before .before in
+    let at-create-null-import-descriptor = at-noted .before .before .before .before in
+    let at-at-of = at-create-null-import-descriptor .before .before in
+    let at-null-descriptor-size = at-at-of .before .before in
+    drew-noted _ (at-null-descriptor-size .null-descriptor-size .ensures _) (at-at-of .at-of .ensures) (at-create-null-import-descriptor .create-null-import-descriptor .ensures)
+    (at-noted .noted .ensures)
 
 pub draw-null-descriptor-spec : {M : Type 1} → statement M
 draw-null-descriptor-spec =

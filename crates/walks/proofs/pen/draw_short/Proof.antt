@@ -5,23 +5,28 @@ use Rattle.walks.proofs.pen.draw_short.Statement.{statement}
 use Rattle.walks.proofs.pen.draw_short.Tie as tie
 
 moved-requires : tie.Need-moved-requires
-moved-requires c κs = room-one (c .before .before .before .before .before .before .before .pre .0) (c .before .short-size .ensures _ _ _)
+moved-requires c κs =
+    let start = c .before .before .before .before .before .before .before in
+    room-one (start .pre .0) (c .before .short-size .ensures _ _ _)
 
 returns : tie.Need-returns
-returns c = drew-empty _ (c .before .before .short-size .ensures _ _ _) (c .before .if1 .taken) (c .moved .ensures .0) (c .moved .ensures .1)
+returns c =
+    let at-short-size = c .before .before in
+    drew-empty _ (at-short-size .short-size .ensures _ _ _) (c .before .if1 .taken) (c .moved .ensures .0) (c .moved .ensures .1)
 
 noted-requires : tie.Need-noted-requires
 noted-requires c κs =
-    let c₇ = c .before .before .before .before .before .before .before in
-    let c₁₃ = c₇ .before .before .before .before .before .before in
-    room-one (c₁₃ .pre .0) (c₇ .short-size .ensures _ _ _)
+    let at-short-size = c .before .before .before .before .before .before .before in
+    let start = at-short-size .before .before .before .before .before .before in
+    room-one (start .pre .0) (at-short-size .short-size .ensures _ _ _)
 
 returns-2 : tie.Need-returns-2
 returns-2 c =
-    let c₆ = c .before .before .before .before .before .before in
-    let c₈ = c₆ .before .before in
-    let c₁₀ = c₈ .before .before in
-    drew-noted _ (c₁₀ .short-size .ensures _ _ _) (c₈ .at-of .ensures) (c₆ .create-short-import .ensures) (c .before .before .noted .ensures)
+    let at-noted = c .before .before in
+    let at-create-short-import = at-noted .before .before .before .before in
+    let at-at-of = at-create-short-import .before .before in
+    let at-short-size = at-at-of .before .before in
+    drew-noted _ (at-short-size .short-size .ensures _ _ _) (at-at-of .at-of .ensures) (at-create-short-import .create-short-import .ensures) (at-noted .noted .ensures)
 
 pub draw-short-spec : {M : Type 1} → statement M
 draw-short-spec =

@@ -5,23 +5,28 @@ use Rattle.walks.proofs.pen.draw_thunk.Statement.{statement}
 use Rattle.walks.proofs.pen.draw_thunk.Tie as tie
 
 moved-requires : tie.Need-moved-requires
-moved-requires c κs = room-one (c .before .before .before .before .pre .0) (c .before .thunk-size .ensures)
+moved-requires c κs =
+    let start = c .before .before .before .before in
+    room-one (start .pre .0) (c .before .thunk-size .ensures)
 
 returns : tie.Need-returns
-returns c = drew-empty _ (c .before .before .thunk-size .ensures) (c .before .if1 .taken) (c .moved .ensures .0) (c .moved .ensures .1)
+returns c =
+    let at-thunk-size = c .before .before in
+    drew-empty _ (at-thunk-size .thunk-size .ensures) (c .before .if1 .taken) (c .moved .ensures .0) (c .moved .ensures .1)
 
 noted-requires : tie.Need-noted-requires
 noted-requires c κs =
-    let c₇ = c .before .before .before .before .before .before .before in
-    let c₁₀ = c₇ .before .before .before in
-    room-one (c₁₀ .pre .0) (c₇ .thunk-size .ensures)
+    let at-thunk-size = c .before .before .before .before .before .before .before in
+    let start = at-thunk-size .before .before .before in
+    room-one (start .pre .0) (at-thunk-size .thunk-size .ensures)
 
 returns-2 : tie.Need-returns-2
 returns-2 c =
-    let c₆ = c .before .before .before .before .before .before in
-    let c₈ = c₆ .before .before in
-    let c₁₀ = c₈ .before .before in
-    drew-noted _ (c₁₀ .thunk-size .ensures) (c₈ .at-of .ensures) (c₆ .create-null-thunk .ensures) (c .before .before .noted .ensures)
+    let at-noted = c .before .before in
+    let at-create-null-thunk = at-noted .before .before .before .before in
+    let at-at-of = at-create-null-thunk .before .before in
+    let at-thunk-size = at-at-of .before .before in
+    drew-noted _ (at-thunk-size .thunk-size .ensures) (at-at-of .at-of .ensures) (at-create-null-thunk .create-null-thunk .ensures) (at-noted .noted .ensures)
 
 pub draw-thunk-spec : {M : Type 1} → statement M
 draw-thunk-spec =

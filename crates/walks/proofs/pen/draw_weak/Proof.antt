@@ -5,23 +5,28 @@ use Rattle.walks.proofs.pen.draw_weak.Statement.{statement}
 use Rattle.walks.proofs.pen.draw_weak.Tie as tie
 
 moved-requires : tie.Need-moved-requires
-moved-requires c κs = room-one (c .before .before .before .before .before .pre .0) (c .before .weak-size .ensures _)
+moved-requires c κs =
+    let start = c .before .before .before .before .before in
+    room-one (start .pre .0) (c .before .weak-size .ensures _)
 
 returns : tie.Need-returns
-returns c = drew-empty _ (c .before .before .weak-size .ensures _) (c .before .if1 .taken) (c .moved .ensures .0) (c .moved .ensures .1)
+returns c =
+    let at-weak-size = c .before .before in
+    drew-empty _ (at-weak-size .weak-size .ensures _) (c .before .if1 .taken) (c .moved .ensures .0) (c .moved .ensures .1)
 
 noted-requires : tie.Need-noted-requires
 noted-requires c κs =
-    let c₇ = c .before .before .before .before .before .before .before in
-    let c₁₁ = c₇ .before .before .before .before in
-    room-one (c₁₁ .pre .0) (c₇ .weak-size .ensures _)
+    let at-weak-size = c .before .before .before .before .before .before .before in
+    let start = at-weak-size .before .before .before .before in
+    room-one (start .pre .0) (at-weak-size .weak-size .ensures _)
 
 returns-2 : tie.Need-returns-2
 returns-2 c =
-    let c₆ = c .before .before .before .before .before .before in
-    let c₈ = c₆ .before .before in
-    let c₁₀ = c₈ .before .before in
-    drew-noted _ (c₁₀ .weak-size .ensures _) (c₈ .at-of .ensures) (c₆ .create-weak-external .ensures) (c .before .before .noted .ensures)
+    let at-noted = c .before .before in
+    let at-create-weak-external = at-noted .before .before .before .before in
+    let at-at-of = at-create-weak-external .before .before in
+    let at-weak-size = at-at-of .before .before in
+    drew-noted _ (at-weak-size .weak-size .ensures _) (at-at-of .at-of .ensures) (at-create-weak-external .create-weak-external .ensures) (at-noted .noted .ensures)
 
 pub draw-weak-spec : {M : Type 1} → statement M
 draw-weak-spec =

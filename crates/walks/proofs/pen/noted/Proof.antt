@@ -6,11 +6,11 @@ use Rattle.walks.proofs.pen.noted.Tie as tie
 
 returns : tie.Need-returns
 returns c =
-    let c₃ = c .before .before .before in
-    let c₇ = c₃ .before .before .before .before in
-    let c₈ = c₇ .before in
-    let c₁₀ = c₈ .before .before in
-    noted-by (c₈ .entry-of .ensures) (c₁₀ .at-of .ensures) (c₇ .put-u32 .ensures) (c₃ .put-u322 .ensures) (c .moved .ensures .0)
+    let at-put-u322 = c .before .before .before in
+    let at-put-u32 = at-put-u322 .before .before .before .before in
+    let at-entry-of = at-put-u32 .before in
+    let at-at-of = at-entry-of .before .before in
+    noted-by (at-entry-of .entry-of .ensures) (at-at-of .at-of .ensures) (at-put-u32 .put-u32 .ensures) (at-put-u322 .put-u322 .ensures) (c .moved .ensures .0)
     (c .moved .ensures .1)
 
 pub noted-spec : {M : Type 1} → statement M

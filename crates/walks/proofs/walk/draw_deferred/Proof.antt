@@ -34,39 +34,43 @@ below b i (l, h, u) = omega arith
 
 shared-slice-read-other : tie.Need-shared-slice-read-other
 shared-slice-read-other c =
-    let p = c .before .before .before .before .before .before .before .pre in
+    let start = c .before .before .before .before .before .before .before in
+    let p = start .pre in
     let (resolved, absent) = p .1 .1 .1 .1 .1 .1 in
     let (l, h, u) = p .1 .1 .1 .1 .0 in
     resolved .held _ l (omega arith) absent
 
 draw-import-requires : tie.Need-draw-import-requires
 draw-import-requires c κs =
-    let string = c .before .before .before .before in
-    let start = string .before .before .before .before .before .before in
+    let at-if1 = c .before .before in
+    let at-string = at-if1 .before .before in
+    let start = at-string .before .before .before .before .before .before in
     let p = start .pre in
     let range = p .1 .1 .1 .1 .0 in
     let lengths = p .1 .1 .1 .1 .1 .0 in
     let (resolved, absent) = p .1 .1 .1 .1 .1 .1 in
-    let none = deferred-none _ _ _ (start .args .dll .now) (start .args .public .now) _ _ _ (target resolved range absent) (string .string .ensures) (few _ (p .1 .1 .0) range) (c .before .before .if1 .taken) in
+    let none = deferred-none _ _ _ (start .args .dll .now) (start .args .public .now) _ _ _ (target resolved range absent) (at-string .string .ensures) (few _ (p .1 .1 .0) range) (at-if1 .if1 .taken) in
     let short = string-length _ _ 3 (p .1 .0) (omega arith) in
-    (room-as (sym none) (p .0), (p .1 .0, ((omega (arith, lengths .1), omega (arith, lengths .0)), (omega (arith, ap length (string .string .ensures), short, p .1 .0 .few 3 (omega arith)), omega arith))))
+    (room-as (sym none) (p .0), (p .1 .0, ((omega (arith, lengths .1), omega (arith, lengths .0)), (omega (arith, ap length (at-string .string .ensures), short, p .1 .0 .few 3 (omega arith)), omega arith))))
 
 returns : tie.Need-returns
 returns c =
-    let if1 = c .before .before .before .before .before in
-    let string = if1 .before .before in
-    let start = string .before .before .before .before .before .before in
+    let at-draw-import = c .before .before in
+    let at-if1 = at-draw-import .before .before .before in
+    let at-string = at-if1 .before .before in
+    let start = at-string .before .before .before .before .before .before in
     let p = start .pre in
     let range = p .1 .1 .1 .1 .0 in
     let (resolved, absent) = p .1 .1 .1 .1 .1 .1 in
     drew-as
-    (deferred-none _ _ _ (start .args .dll .now) (start .args .public .now) _ _ _ (target resolved range absent) (string .string .ensures) (few _ (p .1 .1 .0) range) (if1 .if1 .taken))
-    (c .before .before .draw-import .ensures)
+    (deferred-none _ _ _ (start .args .dll .now) (start .args .public .now) _ _ _ (target resolved range absent) (at-string .string .ensures) (few _ (p .1 .1 .0) range) (at-if1 .if1 .taken))
+    (at-draw-import .draw-import .ensures)
 
 cast-draw-alias-to : tie.Need-cast-draw-alias-to
 cast-draw-alias-to c =
-    let start = c .before .before .before .before .before .before .before .before .before in
-    omega (arith, c .before .before .shared-slice-known5 .given (start .args .k))
+    let at-shared-slice-known5 = c .before .before in
+    let start = at-shared-slice-known5 .before .before .before .before .before .before .before in
+    omega (arith, at-shared-slice-known5 .shared-slice-known5 .given (start .args .k))
 
 draw-alias-to-requires : tie.Need-draw-alias-to-requires
 draw-alias-to-requires c κs =
@@ -83,13 +87,14 @@ draw-alias-to-requires c κs =
 
 returns-2 : tie.Need-returns-2
 returns-2 c =
-    let if1 = c .before .before .before .before in
-    let start = if1 .before .before .before .before .before .before .before .before in
+    let at-draw-alias-to = c .before .before in
+    let at-if1 = at-draw-alias-to .before .before in
+    let start = at-if1 .before .before .before .before .before .before .before .before in
     let p = start .pre in
     let (resolved, absent) = p .1 .1 .1 .1 .1 .1 in
     drew-as
-    (deferred-some _ _ _ (start .args .dll .now) (start .args .public .now) _ _ _ (target resolved (p .1 .1 .1 .1 .0) absent) (if1 .if1 .left) (p .1 .1 .1 .0))
-    (c .before .before .draw-alias-to .ensures)
+    (deferred-some _ _ _ (start .args .dll .now) (start .args .public .now) _ _ _ (target resolved (p .1 .1 .1 .1 .0) absent) (at-if1 .if1 .left) (p .1 .1 .1 .0))
+    (at-draw-alias-to .draw-alias-to .ensures)
 
 pub draw-deferred-spec : {M : Type 1} → statement M
 draw-deferred-spec =

@@ -10,29 +10,31 @@ use Rattle.walks.proofs.walk.draw_final.Tie as tie
 
 draw-source-requires : tie.Need-draw-source-requires
 draw-source-requires c κs =
-    let c₆ = c .before .before .before .before .before .before in
-    (room-as (naming _ _ _ _ _ (sym (final-plain _ (c₆ .args .hashed) (not-true _ (c .before .if1 .taken))))) (c₆ .pre .0), (c₆ .pre .1 .0, (omega (arith, c₆ .pre .1 .1 .1), omega (arith, c₆ .pre .1 .1 .0), omega (arith, c₆ .pre .1 .1 .1))))
+    let start = c .before .before .before .before .before .before in
+    (room-as (naming _ _ _ _ _ (sym (final-plain _ (start .args .hashed) (not-true _ (c .before .if1 .taken))))) (start .pre .0), (start .pre .1 .0, (omega (arith, start .pre .1 .1 .1), omega (arith, start .pre .1 .1 .0), omega (arith, start .pre .1 .1 .1))))
 
 returns : tie.Need-returns
 returns c =
-    let c₄ = c .before .before .before .before in
-    let c₉ = c₄ .before .before .before .before .before in
-    drew-as (naming _ _ _ _ _ (final-plain _ (c₉ .args .hashed) (not-true _ (c₄ .if1 .taken)))) (c .before .before .draw-source .ensures)
+    let at-draw-source = c .before .before in
+    let at-if1 = at-draw-source .before .before in
+    let start = at-if1 .before .before .before .before .before in
+    drew-as (naming _ _ _ _ _ (final-plain _ (start .args .hashed) (not-true _ (at-if1 .if1 .taken)))) (at-draw-source .draw-source .ensures)
 
 draw-source-requires-2 : tie.Need-draw-source-requires-2
 draw-source-requires-2 c κs =
-    let c₃ = c .before .before .before in
-    let c₄ = c₃ .before in
-    let c₉ = c₄ .before .before .before .before .before in
-    (room-as (naming _ _ _ _ _ (sym (final-hashed _ (c₉ .args .hashed) (not-false _ (c₄ .if1 .left)) (c₃ .mangled .ensures .name)))) (c₉ .pre .0), (c₉ .pre .1 .0, (omega (arith, c₃ .mangled .ensures .used, c₃ .mangled .ensures .fits), omega (arith, c₉ .pre .1 .1 .0), omega (arith, c₉ .pre .1 .1 .1))))
+    let at-mangled = c .before .before .before in
+    let at-if1 = at-mangled .before in
+    let start = at-if1 .before .before .before .before .before in
+    (room-as (naming _ _ _ _ _ (sym (final-hashed _ (start .args .hashed) (not-false _ (at-if1 .if1 .left)) (at-mangled .mangled .ensures .name)))) (start .pre .0), (start .pre .1 .0, (omega (arith, at-mangled .mangled .ensures .used, at-mangled .mangled .ensures .fits), omega (arith, start .pre .1 .1 .0), omega (arith, start .pre .1 .1 .1))))
 
 returns-2 : tie.Need-returns-2
 returns-2 c =
-    let c₆ = c .before .before .before .before .before .before in
-    let c₇ = c₆ .before in
-    let c₁₂ = c₇ .before .before .before .before .before in
-    drew-as (naming _ _ _ _ _ (final-hashed _ (c₁₂ .args .hashed) (not-false _ (c₇ .if1 .left)) (c₆ .mangled .ensures .name)))
-    (c .before .before .draw-source2 .ensures)
+    let at-draw-source2 = c .before .before in
+    let at-mangled = at-draw-source2 .before .before .before .before in
+    let at-if1 = at-mangled .before in
+    let start = at-if1 .before .before .before .before .before in
+    drew-as (naming _ _ _ _ _ (final-hashed _ (start .args .hashed) (not-false _ (at-if1 .if1 .left)) (at-mangled .mangled .ensures .name)))
+    (at-draw-source2 .draw-source2 .ensures)
 
 pub draw-final-spec : {M : Type 1} → statement M
 draw-final-spec =

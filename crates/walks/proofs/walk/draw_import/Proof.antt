@@ -8,14 +8,16 @@ use Rattle.walks.proofs.walk.draw_import.Tie as tie
 
 draw-short-requires : tie.Need-draw-short-requires
 draw-short-requires c κs =
-    let c₉ = c .before .before .before .before .before .before .before .before .before in
-    (room-as (sym (import-by _ _ _ _ _ _ (c .before .before .ordinal .ensures) (c .before .import-type .ensures))) (c₉ .pre .0), c₉ .pre .1 .1)
+    let at-ordinal = c .before .before in
+    let start = at-ordinal .before .before .before .before .before .before .before in
+    (room-as (sym (import-by _ _ _ _ _ _ (at-ordinal .ordinal .ensures) (c .before .import-type .ensures))) (start .pre .0), start .pre .1 .1)
 
 returns : tie.Need-returns
 returns c =
-    let c₄ = c .before .before .before .before in
-    let c₅ = c₄ .before in
-    drew-as (import-by _ _ _ _ _ _ (c₅ .ordinal .ensures) (c₄ .import-type .ensures)) (c .before .before .draw-short .ensures)
+    let at-draw-short = c .before .before in
+    let at-import-type = at-draw-short .before .before in
+    let at-ordinal = at-import-type .before in
+    drew-as (import-by _ _ _ _ _ _ (at-ordinal .ordinal .ensures) (at-import-type .import-type .ensures)) (at-draw-short .draw-short .ensures)
 
 pub draw-import-spec : {M : Type 1} → statement M
 draw-import-spec =

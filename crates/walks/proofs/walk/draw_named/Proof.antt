@@ -10,76 +10,84 @@ use Rattle.walks.proofs.walk.draw_named.Statement.{statement}
 use Rattle.walks.proofs.walk.draw_named.Tie as tie
 
 returns : tie.Need-returns
-returns c = drew-as (direct-later _ _ _ _ _ _ (sym (c .before .before .is-direct .ensures) ∙ c .before .if2 .taken) (c .if3 .taken)) (drew-none _ _ _)
+returns c =
+    let at-is-direct = c .before .before in
+    drew-as (direct-later _ _ _ _ _ _ (sym (at-is-direct .is-direct .ensures) ∙ c .before .if2 .taken) (c .if3 .taken)) (drew-none _ _ _)
 
 draw-import-requires : tie.Need-draw-import-requires
 draw-import-requires c κs =
-    let c₃ = c .before .before .before in
-    let c₄ = c₃ .before in
-    let c₅ = c₄ .before in
-    let c₁₁ = c₅ .before .before .before .before .before .before .before in
-    (direct-room _ _ _ _ _ _ (sym (c₅ .is-direct .ensures) ∙ c₄ .if2 .taken) (c₃ .if3 .left) (c₁₁ .pre .0), (c₁₁ .pre .1 .0, ((omega (arith, c₁₁ .pre .1 .1 .1 .1 .0), omega (arith, c₁₁ .pre .1 .1 .1 .1 .0)), (omega arith, omega arith))))
+    let at-if3 = c .before .before .before in
+    let at-if2 = at-if3 .before in
+    let at-is-direct = at-if2 .before in
+    let start = at-is-direct .before .before .before .before .before .before .before in
+    (direct-room _ _ _ _ _ _ (sym (at-is-direct .is-direct .ensures) ∙ at-if2 .if2 .taken) (at-if3 .if3 .left) (start .pre .0), (start .pre .1 .0, ((omega (arith, start .pre .1 .1 .1 .1 .0), omega (arith, start .pre .1 .1 .1 .1 .0)), (omega arith, omega arith))))
 
 returns-2 : tie.Need-returns-2
 returns-2 c =
-    let c₆ = c .before .before .before .before .before .before in
-    let c₇ = c₆ .before in
-    let c₈ = c₇ .before in
-    let c₉ = c₈ .before in
-    direct-drew _ _ _ _ _ _ (sym (c₈ .is-direct .ensures) ∙ c₇ .if2 .taken) (c₆ .if3 .left) (c₉ .if1 .taken) (c .before .before .draw-import .ensures)
+    let at-draw-import = c .before .before in
+    let at-if3 = at-draw-import .before .before .before .before in
+    let at-if2 = at-if3 .before in
+    let at-is-direct = at-if2 .before in
+    let at-if1 = at-is-direct .before in
+    direct-drew _ _ _ _ _ _ (sym (at-is-direct .is-direct .ensures) ∙ at-if2 .if2 .taken) (at-if3 .if3 .left) (at-if1 .if1 .taken) (at-draw-import .draw-import .ensures)
 
 returns-3 : tie.Need-returns-3
 returns-3 c =
-    let c₄ = c .before .before .before .before in
-    let c₁₀ = c₄ .before .before .before .before .before .before .before in
-    drew-as (short-later _ _ (c₁₀ .args .later) _ _ _ _ _ (c₄ .plan .ensures) _ _ _ (c .before .before .hashed .given .1) (c .if4 .taken))
+    let at-hashed = c .before .before in
+    let at-plan = at-hashed .before .before in
+    let start = at-plan .before .before .before .before .before .before .before in
+    drew-as (short-later _ _ (start .args .later) _ _ _ _ _ (at-plan .plan .ensures) _ _ _ (at-hashed .hashed .given .1) (c .if4 .taken))
     (drew-none _ _ _)
 
 draw-final-requires : tie.Need-draw-final-requires
 draw-final-requires c κs =
-    let c₃ = c .before .before .before in
-    let c₅ = c₃ .before .before in
-    let c₁₁ = c₅ .before .before .before .before .before .before .before in
-    (room-as (sym (short-now _ _ (c₁₁ .args .later) _ _ _ _ _ (c₅ .plan .ensures) _ _ _ (c₃ .hashed .given .1) (c .before .if4 .left))) (c₁₁ .pre .0), (c₁₁ .pre .1 .0, c₁₁ .pre .1 .1 .1 .1 .0))
+    let at-hashed = c .before .before .before in
+    let at-plan = at-hashed .before .before in
+    let start = at-plan .before .before .before .before .before .before .before in
+    (room-as (sym (short-now _ _ (start .args .later) _ _ _ _ _ (at-plan .plan .ensures) _ _ _ (at-hashed .hashed .given .1) (c .before .if4 .left))) (start .pre .0), (start .pre .1 .0, start .pre .1 .1 .1 .1 .0))
 
 returns-4 : tie.Need-returns-4
 returns-4 c =
-    let c₃ = c .before .before .before in
-    let c₉ = c₃ .before .before .before .before .before .before .before in
-    drew-as (deferred-now _ _ (c₉ .args .later) _ _ _ _ _ (c₃ .plan .ensures) (c .before .enum-told .given .1) (not-true _ (c .if5 .taken)))
+    let at-plan = c .before .before .before in
+    let start = at-plan .before .before .before .before .before .before .before in
+    drew-as (deferred-now _ _ (start .args .later) _ _ _ _ _ (at-plan .plan .ensures) (c .before .enum-told .given .1) (not-true _ (c .if5 .taken)))
     (drew-none _ _ _)
 
 draw-deferred-requires : tie.Need-draw-deferred-requires
 draw-deferred-requires c κs =
-    let c₄ = c .before .before .before .before in
-    let c₁₀ = c₄ .before .before .before .before .before .before .before in
-    let p = c₁₀ .pre in
-    let planned = ap (shaped _ _) (sym (c .before .before .enum-told .given .1)) ∙ c₄ .plan .ensures in
+    let at-enum-told = c .before .before in
+    let at-plan = at-enum-told .before .before in
+    let start = at-plan .before .before .before .before .before .before .before in
+    let p = start .pre in
+    let planned = ap (shaped _ _) (sym (at-enum-told .enum-told .given .1)) ∙ at-plan .plan .ensures in
     let native = deferred-native _ _ _ _ planned in
-    (room-as (sym (deferred-later _ _ (c₁₀ .args .later) _ _ _ _ _ _ (c₄ .plan .ensures) (c .before .before .enum-told .given .1) (not-false _ (c .before .if5 .left)))) (p .0), (p .1 .0, (p .1 .1 .0, (native, (p .1 .1 .1 .0, (p .1 .1 .1 .1 .0, (p .1 .1 .1 .1 .1 native, deferred-wanted _ _ _ _ _ planned)))))))
+    (room-as (sym (deferred-later _ _ (start .args .later) _ _ _ _ _ _ (at-plan .plan .ensures) (at-enum-told .enum-told .given .1) (not-false _ (c .before .if5 .left)))) (p .0), (p .1 .0, (p .1 .1 .0, (native, (p .1 .1 .1 .0, (p .1 .1 .1 .1 .0, (p .1 .1 .1 .1 .1 native, deferred-wanted _ _ _ _ _ planned)))))))
 
 returns-5 : tie.Need-returns-5
 returns-5 c =
-    let c₄ = c .before .before .before .before in
-    let c₆ = c₄ .before .before in
-    let c₈ = c₆ .before .before in
-    let c₁₄ = c₈ .before .before .before .before .before .before .before in
-    drew-as (short-now _ _ (c₁₄ .args .later) _ _ _ _ _ (c₈ .plan .ensures) _ _ _ (c₆ .hashed .given .1) (c₄ .if4 .left))
-    (c .before .before .draw-final .ensures)
+    let at-draw-final = c .before .before in
+    let at-if4 = at-draw-final .before .before in
+    let at-hashed = at-if4 .before .before in
+    let at-plan = at-hashed .before .before in
+    let start = at-plan .before .before .before .before .before .before .before in
+    drew-as (short-now _ _ (start .args .later) _ _ _ _ _ (at-plan .plan .ensures) _ _ _ (at-hashed .hashed .given .1) (at-if4 .if4 .left))
+    (at-draw-final .draw-final .ensures)
 
 returns-6 : tie.Need-returns-6
 returns-6 c =
-    let c₄ = c .before .before .before .before in
-    let c₅ = c₄ .before in
-    let c₇ = c₅ .before .before in
-    let c₁₃ = c₇ .before .before .before .before .before .before .before in
-    drew-as (deferred-later _ _ (c₁₃ .args .later) _ _ _ _ _ _ (c₇ .plan .ensures) (c₅ .enum-told .given .1) (not-false _ (c₄ .if5 .left)))
-    (c .before .before .draw-deferred .ensures)
+    let at-draw-deferred = c .before .before in
+    let at-if5 = at-draw-deferred .before .before in
+    let at-enum-told = at-if5 .before in
+    let at-plan = at-enum-told .before .before in
+    let start = at-plan .before .before .before .before .before .before .before in
+    drew-as (deferred-later _ _ (start .args .later) _ _ _ _ _ _ (at-plan .plan .ensures) (at-enum-told .enum-told .given .1) (not-false _ (at-if5 .if5 .left)))
+    (at-draw-deferred .draw-deferred .ensures)
 
 returns-7 : tie.Need-returns-7
 returns-7 c =
-    let c₈ = c .before .before .before .before .before .before .before .before .before in
-    drew-as (refused-either _ _ (c₈ .args .later) _ _ _ _ _ (c .before .before .plan .ensures) _ (c .enum-told2 .given .1)) (drew-none _ _ _)
+    let at-plan = c .before .before in
+    let start = at-plan .before .before .before .before .before .before .before in
+    drew-as (refused-either _ _ (start .args .later) _ _ _ _ _ (at-plan .plan .ensures) _ (c .enum-told2 .given .1)) (drew-none _ _ _)
 
 pub draw-named-spec : {M : Type 1} → statement M
 draw-named-spec =

@@ -20,22 +20,28 @@ abbrev μ-loop : tie.MeasureT-loop
 μ-loop out₀ pen b dll machine mingw from to later targets next₀ k₀ out next k = to - k
 
 loop-holds : tie.Need-loop-holds Inv-loop μ-loop
-loop-holds c = (omega arith, c .before .before .before .before .pre .1 .1 .0 .0, drew-as (in-none _ _ _) (drew-none _ _ _))
+loop-holds c =
+    let start = c .before .before .before .before in
+    (omega arith, start .pre .1 .1 .0 .0, drew-as (in-none _ _ _) (drew-none _ _ _))
 
 draw-record-requires : tie.Need-draw-record-requires Inv-loop μ-loop
 draw-record-requires c κs =
-    let c₆ = c .before .before .before .before .before .before .before in
-    (pass-room _ _ (c₆ .pre .0) (c .before .before .loop .inv .0) (c .before .loop-test .taken) (c .before .before .loop .inv .2), (held _ _ (c₆ .pre .1 .0) (omega (arith, c .before .loop-test .taken, c₆ .pre .1 .1 .0 .1)), (c₆ .pre .1 .0, ((c .before .before .loop .inv .0, c .before .loop-test .taken, c₆ .pre .1 .1 .0 .1), c₆ .pre .1 .1 .1))))
+    let at-loop = c .before .before in
+    let start = at-loop .before .before .before .before .before in
+    (pass-room _ _ (start .pre .0) (at-loop .loop .inv .0) (c .before .loop-test .taken) (at-loop .loop .inv .2), (held _ _ (start .pre .1 .0) (omega (arith, c .before .loop-test .taken, start .pre .1 .1 .0 .1)), (start .pre .1 .0, ((at-loop .loop .inv .0, c .before .loop-test .taken, start .pre .1 .1 .0 .1), start .pre .1 .1 .1))))
 
 loop-less : tie.Need-loop-less Inv-loop μ-loop
-loop-less c = omega (arith, c .before .before .before .before .loop-test .taken)
+loop-less c =
+    let at-loop-test = c .before .before .before .before in
+    omega (arith, at-loop-test .loop-test .taken)
 
 loop-again : tie.Need-loop-again Inv-loop μ-loop
 loop-again c =
-    let c₄ = c .before .before .before .before in
-    let c₅ = c₄ .before in
-    let c₉ = c₅ .before .before .before .before .before in
-    (omega (arith, c₅ .loop .inv .0), omega (arith, c₄ .loop-test .taken), pass-drew _ _ (c₉ .pre .0) (c₅ .loop .inv .0) (c₄ .loop-test .taken) (c₅ .loop .inv .2) (c .before .before .draw-record .ensures))
+    let at-draw-record = c .before .before in
+    let at-loop-test = at-draw-record .before .before in
+    let at-loop = at-loop-test .before in
+    let start = at-loop .before .before .before .before .before in
+    (omega (arith, at-loop .loop .inv .0), omega (arith, at-loop-test .loop-test .taken), pass-drew _ _ (start .pre .0) (at-loop .loop .inv .0) (at-loop-test .loop-test .taken) (at-loop .loop .inv .2) (at-draw-record .draw-record .ensures))
 
 same-length : tie.Need-same-length Inv-loop μ-loop
 same-length c = drew-length (c .before .loop .inv .2)

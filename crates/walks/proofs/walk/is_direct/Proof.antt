@@ -14,14 +14,16 @@ returns-2 c = direct-empty _ _ _ _ (c .before .if1 .left) (c .if2 .taken)
 
 returns-3 : tie.Need-returns-3
 returns-3 c =
-    let c₃ = c .before .before .before in
-    direct-exported _ _ _ _ (c₃ .if1 .left) (c .before .before .if2 .left) (sym (c .before .absent .ensures) ∙ not-true _ (c .if3 .taken))
+    let at-if2 = c .before .before in
+    let at-if1 = at-if2 .before in
+    direct-exported _ _ _ _ (at-if1 .if1 .left) (at-if2 .if2 .left) (sym (c .before .absent .ensures) ∙ not-true _ (c .if3 .taken))
 
 returns-4 : tie.Need-returns-4
 returns-4 c =
-    let c₃ = c .before .before .before in
-    let c₄ = c₃ .before in
-    direct-is _ _ _ _ (c₄ .if1 .left) (c₃ .if2 .left) (sym (c .before .before .absent .ensures) ∙ not-false _ (c .before .if3 .left))
+    let at-absent = c .before .before in
+    let at-if2 = at-absent .before in
+    let at-if1 = at-if2 .before in
+    direct-is _ _ _ _ (at-if1 .if1 .left) (at-if2 .if2 .left) (sym (at-absent .absent .ensures) ∙ not-false _ (c .before .if3 .left))
     (c .absent2 .ensures)
 
 pub is-direct-spec : {M : Type 1} → statement M
