@@ -2,7 +2,7 @@
 ghost use Rattle.std.specs.Prelude.{◌≡◌};
 ghost use Rattle.coff.specs.Import.{kind_number, type_number};
 
-#[derive(Drop)]
+#[derive(Clone, Copy)]
 pub enum ImportType {
     // An executable code symbol.
     Code,
@@ -25,7 +25,7 @@ impl ImportType {
     }
 }
 
-#[derive(Drop)]
+#[derive(Clone, Copy)]
 pub enum ImportNameType {
     // Import is by ordinal.
     Ordinal,

@@ -11,7 +11,7 @@ use crate::constants::{
 };
 
 // A machine, with the type of its relocations to an address without the image's base.
-#[derive(Drop)]
+#[derive(Clone, Copy)]
 pub struct Machine {
     pub number: u16,
     pub relocation: u16,
@@ -20,7 +20,7 @@ pub struct Machine {
 }
 
 // What a search by number says.
-#[derive(Drop)]
+#[derive(Clone, Copy)]
 pub enum Found {
     Known(Machine),
     Unknown,

@@ -1,4 +1,6 @@
 // What programs in other languages call; include/crepedum.h declares it.
+#![tactic(auto)]
+
 pub mod reading; // reading.rt: the reader
 pub mod looking; // looking.rt: the lookup
 

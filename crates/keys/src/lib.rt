@@ -1,6 +1,8 @@
 // Keys: a lent table of slots tells the last import of a list that has the key which an alias asks for. Each slot has a state, the
 // hash of a key and the number of a record. A key is looked for from the slot of its hash on, up to one that is free; equal keys
 // share a slot, so the last record stays. Aliases stand in no ARM64EC list, so the final name is the public one.
+#![tactic(auto)]
+
 mod hash; // hash.rt: the hash of a key
 
 ghost use Rattle.std.specs.Prelude.{◌≡◌, ℕ, ◌+◌, ◌-◌, ◌<◌, ◌≤◌, true, length, ◌≢◌, slice_index, slice_set};
@@ -38,7 +40,7 @@ const USED: u32 = 1;
 // A slot as it is lent: its state, hash and record. To C that is a struct of three `uint32_t`.
 pub type Row = [u32; 3];
 
-#[derive(Drop)]
+#[derive(Clone, Copy)]
 pub struct Slot {
     // 0: free; else used
     pub state: u32,
@@ -49,7 +51,7 @@ pub struct Slot {
 }
 
 // Where a search for a key ends.
-#[derive(Drop)]
+#[derive(Clone, Copy)]
 pub enum Spot {
     // At a free slot, by its place.
     Free(usize),

@@ -21,7 +21,7 @@ use Rattle.format.specs.declared.Checked.TheVariants.{Fine}
 use Rattle.laws.proofs.Accepted.{GoodExport, accepted}
 use Rattle.laws.proofs.Plans.{choice-final, PlanBounds, of-deferred, plan-bounds}
 use Rattle.laws.proofs.Members.{last-answering}
-use Rattle.laws.proofs.Sets.{Listed, written-read, read-back, first-listed, native-listed}
+use Rattle.laws.proofs.Sets.{Listed, written-read, read_back, first-listed, native-listed}
 use Rattle.laws.proofs.Leads.{entry_of, definer_in, steps_to, leads_in, lookup_in-means}
 use Rattle.laws.proofs.Asks.{asks-plain, asks-deferred}
 use Rattle.laws.proofs.Definers.{member-among, among-member, finds, definer-defines, short-leads, weak-leads, undefined}
@@ -360,4 +360,4 @@ demand3 o b small e =
 
 -- demands 2 and 3 of every list of bytes that is accepted
 pub promised : (o : Options) (b : Bytes) → Promised o b
-promised o b = record { read-back = read-back o b; leading = demand3 o b }
+promised o b = record { read_back = read_back o b; leading = demand3 o b }

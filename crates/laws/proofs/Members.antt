@@ -208,10 +208,14 @@ answers-plain machine wanted (refused n) b e = let z : ◌≡◌ {A = ℕ} 0 1 =
 final-some : (machine : ℕ) (p : Plan) → Plain machine p → 1 ≤ length (final p)
 unfolding final
 final-some machine (plain f t x) (is-plain b) = b.some-bytes
+final-some machine (deferred p w) q = elim q [ ]
+final-some machine (refused n) q = elim q [ ]
 
 final-clear : (machine : ℕ) (p : Plan) → eqb machine arm64ec ≡ false → Plain machine p → Clear max_public (final p)
 unfolding final
 final-clear machine (plain f t x) m (is-plain b) = record { few = b.unmangled m; clear = b.named.clear }
+final-clear machine (deferred p w) m q = elim q [ ]
+final-clear machine (refused n) m q = elim q [ ]
 
 module _ (machine : ℕ) (mingw : Bool) (dll : Bytes) (listed : ListMachine machine) (admitted : admits_dll dll ≡ true)
     (es : List Export) (goods : (e : Export) → Memᴰ e es → GoodExport e) (numbers : (e : Export) → Memᴰ e es → Numbered e) where

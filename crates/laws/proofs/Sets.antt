@@ -284,8 +284,8 @@ module _ (o : Options) (b : Bytes) where
   written-natives small e = set-natives (length (first_members o b)) (length (native_members o b)) (all_members o b) members-counted (total-small o b small e)
 
   -- the last half of demand 2
-  pub read-back : Octets b → check_exports o b ≡ Fine → ReadBack o b
-  read-back small e =
+  pub read_back : Octets b → check_exports o b ≡ Fine → ReadBack o b
+  read_back small e =
       record {
         back = λ m i. read-back m (all-admitted o b small e m i);
         members = rw (written-read small e) (ap some (placed-members first_place (all_members o b)));

@@ -80,7 +80,7 @@ fn put_thunk_name(out: &mut [u8], at: usize, stem: &[u8]) -> usize
 // ---- string tables
 
 // A table that was written: the place after it, and where each of its strings begins in it.
-#[derive(Drop)]
+#[derive(Clone, Copy)]
 pub struct DescriptorTable {
     pub next: usize,
     pub name_at: u32,
@@ -88,7 +88,7 @@ pub struct DescriptorTable {
     pub thunk_at: u32,
 }
 
-#[derive(Drop)]
+#[derive(Clone, Copy)]
 pub struct WeakTable {
     pub next: usize,
     pub target_at: u32,

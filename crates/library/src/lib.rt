@@ -1,4 +1,6 @@
 // The library: a port of write_import_library, members only. An export list is checked, its set measured and then written by one walk.
+#![tactic(auto)]
+
 pub mod aliases; // aliases.rt: the aliases of both lists, resolved
 pub mod set; // set.rt: the member set
 
@@ -13,7 +15,7 @@ use format::{Checked, Written};
 use keys::Row;
 
 // What both operations ask first: the machine of a list to which none of refusals 1 to 14 applies, or the refusal.
-#[derive(Drop)]
+#[derive(Clone, Copy)]
 enum Accepted {
     By(Machine),
     Refused { number: u32, place: u32 },

@@ -26,7 +26,7 @@ const MAX_MEMBERS: usize = 2;
 const FARTHEST: usize = SET_HEADER_SIZE + ENTRY_SIZE * (FIXED_MEMBERS + MAX_MEMBERS * MAX_EXPORTS);
 
 // Where the pen stands after all members, and how many each list has.
-#[derive(Drop)]
+#[derive(Clone, Copy)]
 pub struct Drawn {
     pub pen: u64,
     pub firsts: usize,

@@ -1,4 +1,6 @@
 // Export lists: refusals 2 to 10 over any bytes.
+#![tactic(auto)]
+
 pub mod record; // record.rt: the exports of a checked list
 
 ghost use Rattle.std.specs.Prelude.{◌≡◌, ◌+◌, ◌*◌, ◌≤◌, ◌<◌, length};

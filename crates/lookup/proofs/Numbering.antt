@@ -26,7 +26,7 @@ use Rattle.laws.proofs.ReadBack.{read-sound}
 use Rattle.search.specs.Search.{place_of}
 use Rattle.search.specs.declared.Place.TheVariants as P
 use Rattle.search.proofs.Searches.{first-here, first-later, place-at, place-nowhere}
-use Rattle.lookup.specs.Numbered.{bytes_of, member_at, symbols_of, defines_at, definer_from, entry_by, led_by, led_at, step-from, answer_from, looked_from, led_as, Within, Led}
+use Rattle.lookup.specs.Numbered.{bytes_of, member_at, symbols_of, defines_at, definer_from, entry_by, led_by, led_at, step_from, answer_from, looked_from, led_as, Within, Led}
 use Rattle.lookup.specs.declared.Lead.{Lead}
 use Rattle.lookup.specs.declared.Lead.TheVariants as L
 use Rattle.lookup.proofs.Laying.{laid-count, laid-member, length-bytes_of}
@@ -149,17 +149,17 @@ step-placed b (some j) = pick (member_at b j)
     pick (some (weak m target alias)) = refl
 
 module _ (b : Bytes) (i n : ℕ) (ps : List Placed) (e : read_from b i n ≡ some ps) where
-  step-from : (s : Bytes) → step (definer ps s) ≡ step-from b i n s
-  unfolding step-from
+  step-from : (s : Bytes) → step (definer ps s) ≡ step_from b i n s
+  unfolding step_from
   step-from s = ap step (definer-placed b s i n ps e) ∙ step-placed b (definer_from b s i n)
 
-  answer-placed : (q : Option ℕ) → answer ps (placed_at b q) ≡ led_at b NotFound (step-from b i n) q
+  answer-placed : (q : Option ℕ) → answer ps (placed_at b q) ≡ led_at b NotFound (step_from b i n) q
   unfolding answer answered placed_at led_at led_by
   answer-placed none = refl
   answer-placed (some j) = pick (member_at b j)
     where
       pick : (m : Option Member)
-          → answer ps (map (λ (m : Member). record { at = offset_at b j; member = m }) m) ≡ led_by NotFound (step-from b i n) (offset_at b j) m
+          → answer ps (map (λ (m : Member). record { at = offset_at b j; member = m }) m) ≡ led_by NotFound (step_from b i n) (offset_at b j) m
       pick none = refl
       pick (some (descriptor m dll compat)) = refl
       pick (some (null_descriptor m s)) = refl
@@ -173,12 +173,12 @@ module _ (b : Bytes) (i n : ℕ) (ps : List Placed) (e : read_from b i n ≡ som
 
 -- as the functions have it
 module _ (b : Bytes) (i n : ℕ) (s : Bytes) where
-  pub step-none : place_of (definer_from b s i n) ≡ P.Nowhere → Nowhere ≡ step-from b i n s
-  unfolding step-from led_at
+  pub step-none : place_of (definer_from b s i n) ≡ P.Nowhere → Nowhere ≡ step_from b i n s
+  unfolding step_from led_at
   step-none e = rw (place-nowhere (definer_from b s i n) e)
 
-  pub step-at : {r : Looked} (j : ℕ) → place_of (definer_from b s i n) ≡ P.At j → r ≡ led_at b Nowhere (λ another. Nowhere) (some j) → r ≡ step-from b i n s
-  unfolding step-from
+  pub step-at : {r : Looked} (j : ℕ) → place_of (definer_from b s i n) ≡ P.At j → r ≡ led_at b Nowhere (λ another. Nowhere) (some j) → r ≡ step_from b i n s
+  unfolding step_from
   step-at j e g = g ∙ ap (led_at b Nowhere (λ another. Nowhere)) (sym (place-at (definer_from b s i n) j e))
 
   pub looked-refused : is_some (read_set b) ≡ false → Refused 17 0 ≡ looked_from b i n s
@@ -189,7 +189,7 @@ module _ (b : Bytes) (i n : ℕ) (s : Bytes) where
   unfolding looked_from answer_from led_at
   looked-none e f = rw (e, f)
 
-  pub looked-at : {r : Looked} (j : ℕ) → is_some (read_set b) ≡ true → definer_from b s i n ≡ some j → r ≡ led_at b NotFound (step-from b i n) (some j) → r ≡ looked_from b i n s
+  pub looked-at : {r : Looked} (j : ℕ) → is_some (read_set b) ≡ true → definer_from b s i n ≡ some j → r ≡ led_at b NotFound (step_from b i n) (some j) → r ≡ looked_from b i n s
   unfolding looked_from answer_from
   looked-at j e f g = rw (e, f) g
 
@@ -326,8 +326,8 @@ module _ (b : Bytes) (laid : laid_out b ≡ true) where
         pick (some j) e = reached j (omega (arith, definer-at b s i n j e)) (member_at b j) refl
 
     answer-ends : (s : Bytes) → Ends (length b) (answer_from b i n s)
-    unfolding answer_from step-from
-    answer-ends s = led-ends s NotFound (step-from b i n) tt (λ t. led-ends t Nowhere (λ another. Nowhere) tt (λ u. tt))
+    unfolding answer_from step_from
+    answer-ends s = led-ends s NotFound (step_from b i n) tt (λ t. led-ends t Nowhere (λ another. Nowhere) tt (λ u. tt))
 
 lookup-ends : (b : Bytes) (l : ℕ) (s : Bytes) → Ends (length b) (lookup b l s)
 unfolding is_some

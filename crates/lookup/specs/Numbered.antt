@@ -96,12 +96,12 @@ led_at b other weakly none = other
 led_at b other weakly (some j) = led_by other weakly (offset_at b j) (member_at b j)
 
 -- where a target leads among the n members from the i-th on: another weak external, nowhere
-unfoldable pub step-from : Bytes → ℕ → ℕ → Bytes → Looked
-step-from b i n target = led_at b Nowhere (λ another. Nowhere) (definer_from b target i n)
+unfoldable pub step_from : Bytes → ℕ → ℕ → Bytes → Looked
+step_from b i n target = led_at b Nowhere (λ another. Nowhere) (definer_from b target i n)
 
 -- where a symbol leads among them
 unfoldable pub answer_from : Bytes → ℕ → ℕ → Bytes → Looked
-answer_from b i n s = led_at b NotFound (step-from b i n) (definer_from b s i n)
+answer_from b i n s = led_at b NotFound (step_from b i n) (definer_from b s i n)
 
 -- the same of any bytes that are laid out as a set
 unfoldable pub looked_from : Bytes → ℕ → ℕ → Bytes → Looked

@@ -3,6 +3,8 @@
 // Any bytes are taken. One pass reads every member, which tests that they are a member set, and notes the first of the list
 // that defines the symbol; the members of the list are gone through once more for the target of a weak external. Nothing is
 // copied; a name is answered by its place.
+#![tactic(auto)]
+
 pub mod sets; // sets.rt: the set, and its members by their numbers
 pub mod symbols; // symbols.rt: the symbols that a member defines
 pub mod entries; // entries.rt: what a short import answers
@@ -33,7 +35,7 @@ const REFUSED: Looked = Looked::Refused {
 const AFTER_ONE_STEP: Looked = Looked::Nowhere;
 
 // What a pass finds: the first member that defines a symbol, by its number, or none; or that the bytes are not a member set.
-#[derive(Drop)]
+#[derive(Clone, Copy)]
 pub enum Sought {
     At(usize),
     Nowhere,
@@ -41,7 +43,7 @@ pub enum Sought {
 }
 
 // Where a member leads: to an answer, to the target of a weak external, by its place in the member, or nowhere.
-#[derive(Drop)]
+#[derive(Clone, Copy)]
 pub enum Lead {
     Answer(Looked),
     Target(Span),

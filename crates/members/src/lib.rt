@@ -1,6 +1,8 @@
 // The five members of an import library, written: a port of ObjectFactory of coff_import_file.rs. Each is one function, in the
 // order of its bytes: header, sections, data, symbols, strings; but where symbols name more than one string, the strings are
 // written first, since what writes them answers where each begins. A name is copied to its place and nowhere else.
+#![tactic(auto)]
+
 pub mod extents; // extents.rt: how many bytes each member has
 
 ghost use Rattle.std.specs.Prelude.{◌≤◌, [], ◌∷◌, ◌++◌, length};

@@ -4,7 +4,7 @@ ghost use Rattle.wire.specs.Bytes.{same};
 ghost use Rattle.wire.specs.Writes.{Wrote};
 ghost use Rattle.names.specs.Built.{name_of};
 
-#[derive(Drop)]
+#[derive(Clone, Copy)]
 pub struct BuiltName {
     pub bytes: [u8; 8192],
     pub len: usize,

@@ -12,7 +12,7 @@ use search::{Place, find, starts_with};
 pub const TAG_LEN: usize = 3;
 
 // What mangling a name comes to.
-#[derive(Drop)]
+#[derive(Clone, Copy)]
 pub enum Mangling {
     // A `#` goes before it.
     Prefix,
@@ -23,7 +23,7 @@ pub enum Mangling {
 }
 
 // What demangling a name comes to.
-#[derive(Drop)]
+#[derive(Clone, Copy)]
 pub enum Demangled {
     // All but its first byte.
     Dropped,

@@ -8,7 +8,7 @@ use crate::built::{BuiltName, fresh, lay};
 use search::{Place, find, starts_with};
 
 // How a name comes about: the bytes of s from at to end are replaced by those of to from skip on.
-#[derive(Drop)]
+#[derive(Clone, Copy)]
 pub enum Renaming {
     Of { at: usize, end: usize, skip: usize },
     Fails,
@@ -65,7 +65,7 @@ pub fn spliced(s: &[u8], to: &[u8], at: usize, end: usize, skip: usize) -> Built
 }
 
 // A name, or that renaming failed. An enum may hold no array, so the mark stands beside the name.
-#[derive(Drop)]
+#[derive(Clone, Copy)]
 pub struct Replaced {
     pub found: bool,
     pub name: BuiltName,

@@ -1,5 +1,7 @@
 // Runs the name rules on the oracle's table of names, which is its standard input, and prints for each rule how many rows
 // the table has and on how many of them the rule says something else than the Rust.
+#![tactic(auto)]
+
 mod table; // table.rt: the table and its rows
 mod rules; // rules.rt: a row's question put to the proved functions
 

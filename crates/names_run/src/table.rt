@@ -26,7 +26,7 @@ const MINGW: u8 = 2;
 const HEADER: usize = 3;
 
 // How many rows there are of a rule, and on how many of them it differs.
-#[derive(Drop)]
+#[derive(Clone, Copy)]
 pub struct Tally {
     pub cases: usize,
     pub differ: usize,

@@ -1,5 +1,7 @@
 // What becomes of an export: a port of the walk of write_import_library over one record. A plan holds no name: the final name and the
 // export string are said by where they come from, so that nothing is copied where a name is a part of the list.
+#![tactic(auto)]
+
 pub mod check; // check.rt: refusals 11 to 14
 pub mod keys; // keys.rt: whether an import answers to a name
 
@@ -19,7 +21,7 @@ use lists::record;
 use names::{mangler, types};
 
 // Where an export string comes from.
-#[derive(Drop)]
+#[derive(Clone, Copy)]
 pub enum Source {
     // There is none.
     Nothing,
@@ -32,7 +34,7 @@ pub enum Source {
 }
 
 // The name type with its export string, or that the export is deferred.
-#[derive(Drop)]
+#[derive(Clone, Copy)]
 pub enum Choice {
     Typed {
         name_type: ImportNameType,
@@ -43,7 +45,7 @@ pub enum Choice {
 
 // The plan of an export: a short import, whose final name is the public name with `#` before it or without, one that is deferred, or a
 // refusal.
-#[derive(Drop)]
+#[derive(Clone, Copy)]
 pub enum Shape {
     Short {
         hashed: bool,

@@ -38,12 +38,12 @@ descriptor-barred b o e f = rw (o, ap admits_dll (sym e) ∙ f)
 
 -- ---- the null import descriptor
 
-abbrev null-of : ℕ → Bytes → Member
-null-of m s = null_descriptor m (if same s (null_name none) then none else some (drop (length (null_name none) + 1) s))
+abbrev null_of : ℕ → Bytes → Member
+null_of m s = null_descriptor m (if same s (null_name none) then none else some (drop (length (null_name none) + 1) s))
 
-null-guessed : {m : ℕ} {name : Bytes} (b : Bytes) → m ≡ u16_at b 0 → name ≡ text_at b null_strings_at → null-of m name ≡ null_guess b
+null-guessed : {m : ℕ} {name : Bytes} (b : Bytes) → m ≡ u16_at b 0 → name ≡ text_at b null_strings_at → null_of m name ≡ null_guess b
 unfolding null_guess
-null-guessed b em en = ap₂ null-of em en
+null-guessed b em en = ap₂ null_of em en
 
 pub null-plain-guessed : {m : ℕ} {name : Bytes} (b : Bytes) → m ≡ u16_at b 0 → name ≡ text_at b null_strings_at
     → same name (ascii "__NULL_IMPORT_DESCRIPTOR") ≡ true → null_descriptor m none ≡ null_guess b

@@ -3,6 +3,8 @@
 // The fields are taken from where the one layout that fits the header has them. Whether the member that they make is admitted
 // is tested, and its bytes, as the writer writes them, are looked for: they must end where the bytes end. A name is answered by
 // its place.
+#![tactic(auto)]
+
 pub mod texts; // texts.rt: names in bytes, and what is admitted
 pub mod answers; // answers.rt: what is answered for a member
 

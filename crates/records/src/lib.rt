@@ -1,5 +1,7 @@
 // The records of a COFF object file and the header of a short import, with the PE Format document's names. Fields that
 // are always 0 in a member are not held: `write` puts 0 there, and `read` passes over them.
+#![tactic(auto)]
+
 ghost use Rattle.std.specs.Prelude.{◌+◌, ◌≤◌, ◌≡◌, length};
 ghost use Rattle.wire.specs.Bytes.{part};
 ghost use Rattle.wire.specs.Writes.{Wrote, Found};
@@ -7,7 +9,7 @@ ghost use Rattle.format.specs.Layouts.{file_header_size, symbol_size, import_hea
 ghost use Rattle.records.specs.Records.{file_header_bytes, file_header_at, section_bytes, relocation_bytes, symbol_bytes, symbol_at, import_header_bytes, import_header_at, signed};
 
 // The header of an object file.
-#[derive(Drop)]
+#[derive(Clone, Copy)]
 pub struct FileHeader {
     pub machine: u16,
     pub number_of_sections: u16,
@@ -86,7 +88,7 @@ impl FileHeader {
 }
 
 // The header of a section.
-#[derive(Drop)]
+#[derive(Clone, Copy)]
 pub struct Section {
     pub name: [u8; 8],
     pub size_of_raw_data: u32,
@@ -166,7 +168,7 @@ impl Section {
 }
 
 // A relocation of a section.
-#[derive(Drop)]
+#[derive(Clone, Copy)]
 pub struct Relocation {
     pub virtual_address: u32,
     pub symbol_table_index: u32,
@@ -206,7 +208,7 @@ impl Relocation {
 }
 
 // A symbol, or the auxiliary record of one.
-#[derive(Drop)]
+#[derive(Clone, Copy)]
 pub struct Symbol {
     pub name: [u8; 8],
     // -1 absolute, 0 undefined, positive defined.
@@ -279,7 +281,7 @@ impl Symbol {
 }
 
 // An import descriptor. In a member all its fields are 0: a linker sets them.
-#[derive(Drop)]
+#[derive(Clone, Copy)]
 pub struct ImportDescriptor {}
 
 impl ImportDescriptor {
@@ -301,7 +303,7 @@ impl ImportDescriptor {
 }
 
 // The header of a short import.
-#[derive(Drop)]
+#[derive(Clone, Copy)]
 pub struct ImportObjectHeader {
     pub machine: u16,
     pub size_of_data: u32,

@@ -1,10 +1,12 @@
 // Where a pattern stands.
+#![tactic(auto)]
+
 ghost use Rattle.std.specs.Prelude.{◌≡◌, ◌+◌, ◌≤◌, length, drop};
 ghost use Rattle.wire.specs.Bytes.{starts, before};
 ghost use Rattle.format.specs.Names.{find};
 ghost use Rattle.search.specs.Search.{place_of};
 
-#[derive(Drop)]
+#[derive(Clone, Copy)]
 pub enum Place {
     At(usize),
     Nowhere,

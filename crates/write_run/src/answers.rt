@@ -26,7 +26,7 @@ const COMPAT: u32 = 2;
 const GUARD: u8 = 165;
 
 // How many cases there are, how many of them the Rust wrote and refused, and on how many the writer differs.
-#[derive(Drop)]
+#[derive(Clone, Copy)]
 pub struct Tally {
     pub cases: usize,
     pub written: usize,

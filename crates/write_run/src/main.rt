@@ -1,5 +1,7 @@
 // Runs the writer on the oracle's fixed list of cases, which is its standard input, and prints how many cases there are,
 // how many of them the Rust wrote and refused, and on how many of them the writer says or leaves something else.
+#![tactic(auto)]
+
 mod answers; // answers.rt: the list and its cases
 mod replay; // replay.rt: a case put to the writer
 

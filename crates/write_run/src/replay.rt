@@ -11,7 +11,7 @@ use format::Written;
 const STRANGE: u32 = 7;
 
 // What the writer is asked beside the list.
-#[derive(Drop)]
+#[derive(Clone, Copy)]
 pub struct Asked {
     pub machine: u32,
     pub mingw: bool,
@@ -19,7 +19,7 @@ pub struct Asked {
 }
 
 // The Rust's answer: number 0 and the total, or the refusal's number and place.
-#[derive(Drop)]
+#[derive(Clone, Copy)]
 pub struct Kept {
     pub number: u32,
     pub value: u32,

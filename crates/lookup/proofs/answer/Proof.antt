@@ -4,7 +4,7 @@ use mathlib.Core.Path.{ap}
 use native.Mathlib.Omega.{arith}
 use lib.ListN.{length}
 use Rattle.format.specs.declared.Looked.TheVariants.{NotFound}
-use Rattle.lookup.specs.Numbered.{step-from}
+use Rattle.lookup.specs.Numbered.{step_from}
 use Rattle.lookup.proofs.Numbering.{led-at, led-within, led-target}
 use borrow.Author.Rules.{rules}
 use Rattle.lookup.proofs.answer.Statement.{statement}
@@ -35,7 +35,7 @@ returns c =
     let at-leading = c.before.before.before in
     let start = at-leading.before.before in
     let a = start.args in
-    led-at _ _ _ at-leading.leading.ensures c.before.looked.given.1 NotFound (step-from a.set.now a.from (a.to - a.from))
+    led-at _ _ _ at-leading.leading.ensures c.before.looked.given.1 NotFound (step_from a.set.now a.from (a.to - a.from))
 
 returns-2 : tie.Need-returns-2
 returns-2 c =
@@ -44,7 +44,7 @@ returns-2 c =
     let at-leading = at_Target.before.before in
     let start = at-leading.before.before in
     let a = start.args in
-    let weakly = step-from a.set.now a.from (a.to - a.from) in
+    let weakly = step_from a.set.now a.from (a.to - a.from) in
     led-target _ _ _ NotFound weakly (led-at _ _ _ at-leading.leading.ensures at_Target.target.given.1 NotFound weakly) at-member-at.member-at.ensures.0
     c.before.part.ensures c.follow.ensures
 
@@ -53,7 +53,7 @@ returns-3 c =
     let at-leading = c.before.before in
     let start = at-leading.before.before in
     let a = start.args in
-    led-at _ _ _ at-leading.leading.ensures c.enum_told.given.1 NotFound (step-from a.set.now a.from (a.to - a.from))
+    led-at _ _ _ at-leading.leading.ensures c.enum_told.given.1 NotFound (step_from a.set.now a.from (a.to - a.from))
 
 pub answer-spec : {M : Type 1} → statement M
 answer-spec =

@@ -1,0 +1,7 @@
+-- `records::FileHeader::write` meets its contract.
+use Rattle.wire.proofs.Writes.{wrote-as}
+use Rattle.records.proofs.FileHeader.write.Goals as goal
+
+pub returns : goal.returns
+returns c =
+    wrote-as c.bytes-b.ensures c.put.ensures

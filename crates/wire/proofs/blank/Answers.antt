@@ -1,0 +1,18 @@
+use borrow.Author.Rules.{rules}
+use mathlib.Core.Path.{◌≡◌, refl}
+use native.Mathlib.Omega.{arith}
+use Rattle.wire.specs.Bytes.{part, same}
+use Rattle.wire.proofs.Parts.{same-zeros-more}
+use Rattle.wire.proofs.blank.Goals as goal
+
+pub loop-k-init : goal.loop-k-init
+unfolding part same
+loop-k-init c = (search rules, refl)
+
+pub loop-k-preserved : goal.loop-k-preserved
+loop-k-preserved c =
+    (search rules, same-zeros-more _ _ _ (omega arith) c.loop-k.invariant.1)
+
+pub returns : goal.returns
+returns c =
+    let e : c.loop-k.k ≡ c.args.n = omega arith in rw e at c.loop-k.invariant.1

@@ -1,0 +1,18 @@
+use borrow.Author.Rules.{rules}
+use mathlib.Core.Path.{◌≡◌, refl}
+use native.Mathlib.Omega.{arith}
+use Rattle.wire.specs.Bytes.{part, holds}
+use Rattle.wire.proofs.Parts.{holds-part-more}
+use Rattle.wire.proofs.holds_at.Goals as goal
+
+pub loop-k-init : goal.loop-k-init
+unfolding part holds
+loop-k-init c = (search rules, refl)
+
+pub loop-k-preserved : goal.loop-k-preserved
+loop-k-preserved c =
+    (search rules, holds-part-more _ _ _ _ (omega arith) c.loop-k.invariant.1)
+
+pub returns : goal.returns
+returns c =
+    let e : c.loop-k.k ≡ c.args.n = omega arith in rw e at c.loop-k.invariant.1
