@@ -3,7 +3,7 @@ use Prim.Native.Nat.{ℕ, ◌+◌}
 use mathlib.Core.Path.{◌≡◌}
 use mathlib.Core.List.{List, [], ◌∷◌, ◌++◌}
 use native.Mathlib.Omega.{arith}
-use lib.ListN.{length, take, length-append}
+use lib.ListN.{length, length-append}
 use Rattle.wire.specs.Bytes.{Bytes, join}
 use Rattle.format.specs.Layouts.{strings, strings_at, descriptor_name, thunk_name}
 use Rattle.laws.proofs.Lengths.{length-symbol, length-long_name, length-auxiliary, length-strings-nil, length-strings-cons, length-descriptor_name, length-thunk_name}

@@ -19,7 +19,7 @@ use Rattle.format.specs.Demands.{LookedUp}
 use Rattle.format.specs.declared.Span.{Span}
 use Rattle.format.specs.declared.Looked.{Looked}
 use Rattle.format.specs.declared.Looked.TheVariants.{NotFound, Nowhere, Ordinal, Name, Refused}
-use Rattle.laws.proofs.Names.{At, first-at}
+use Rattle.laws.proofs.Names.{first-at}
 use Rattle.laws.proofs.Leads.{apply-within}
 use Rattle.laws.proofs.Lengths.{length-encode-short}
 use Rattle.laws.proofs.ReadBack.{read-sound}

@@ -14,7 +14,7 @@ ghost use Rattle.std.proofs.Math.Option.{some};
 ghost use Rattle.format.specs.declared.Looked.TheVariants.{NotFound};
 ghost use Rattle.format.specs.Lookup.{set_count, laid_out, lookup};
 ghost use Rattle.search.specs.Search.{place_of};
-ghost use Rattle.lookup.specs.Numbered.{ranked_from, definer_from, sought_of, Led, led_at, step-from, looked_from};
+ghost use Rattle.lookup.specs.Numbered.{ranked_from, definer_from, sought_of, Led, led_at, step_from, looked_from};
 
 use format::{Looked, Read, Span};
 use layout::places::FIXED_MEMBERS;
@@ -146,7 +146,7 @@ fn leading(set: &[u8], i: usize) -> Lead
 fn follow(set: &[u8], from: usize, to: usize, target: &[u8]) -> Looked
     requires set_value { laid_out set.now ≡ true }
     requires from_le_to { (from ≤ to) × (to ≤ set_count set.now) }
-    ensures { result ≡ step-from set.now from (to - from) target.now }
+    ensures { result ≡ step_from set.now from (to - from) target.now }
 {
     let Place::At(i) = definer(set, from, to, target) else {
         return Looked::Nowhere;
@@ -162,7 +162,7 @@ fn follow(set: &[u8], from: usize, to: usize, target: &[u8]) -> Looked
 fn answer(set: &[u8], from: usize, to: usize, i: usize) -> Looked
     requires set_value { laid_out set.now ≡ true }
     requires from_le_to { (from ≤ to) × (to ≤ set_count set.now) × (i < set_count set.now) }
-    ensures { result ≡ led_at set.now NotFound (step-from set.now from (to - from)) (some i) }
+    ensures { result ≡ led_at set.now NotFound (step_from set.now from (to - from)) (some i) }
 {
     match leading(set, i) {
         Lead::Answer(looked) => looked,

@@ -2,14 +2,10 @@
 use Prim.Native.Nat.{ℕ, ◌-◌, ◌≤◌}
 use mathlib.Core.Path.{◌≡◌, refl, sym, ap, ◌∙◌}
 use mathlib.Core.Bool.{Bool, ◌&&◌, ◌||◌, not, true, false}
-use mathlib.Core.List.{[], ◌∷◌}
-use mathlib.Core.Logic.{⊎_elim}
+use mathlib.Core.Logic.{◌⊎◌, ⊎_elim}
 use native.Mathlib.Omega.{arith}
 use lib.ListN.{length, take, drop, length-drop}
 use lib.Dec.{eqb}
-use types.Run.{OneOf}
-use denote.Enum.Declared.{tag_of}
-use Rattle.coff.specs.contracts.import.ImportNameType.{the_type}
 use Rattle.coff.specs.declared.import.ImportNameType.{ImportNameType}
 use Rattle.coff.specs.declared.import.ImportNameType.TheVariants.{Ordinal, Name, NameNoprefix, NameUndecorate, NameExportas}
 use Rattle.coff.specs.Import.{type_number}
@@ -78,11 +74,11 @@ module _ {t : ImportNameType} (s : Bytes) (n : ℕ) (e : n ≡ prefixed s) (h : 
       })
 
 -- the types that leave a name as it is, as a `match` tells them: by the tags 0, 1 and 4
-pub applied-left : (t : ImportNameType) (s : Bytes) → OneOf (0 ∷ 1 ∷ 4 ∷ []) (tag_of the_type t)
+pub applied-left : (t : ImportNameType) (s : Bytes) → (t ≡ Ordinal) ⊎ ((t ≡ Name) ⊎ (t ≡ NameExportas))
     → Applied (type_number t) s (record { start = 0; length = length s })
 unfolding apply dropped
 applied-left Ordinal s k = record { start = refl; size = refl; bytes = part-whole s; within = omega arith }
 applied-left Name s k = record { start = refl; size = refl; bytes = part-whole s; within = omega arith }
-applied-left NameNoprefix s k = absurd (⊎_elim (λ e. omega arith) (λ r. ⊎_elim (λ e. omega arith) (λ e. omega arith) r) k)
-applied-left NameUndecorate s k = absurd (⊎_elim (λ e. omega arith) (λ r. ⊎_elim (λ e. omega arith) (λ e. omega arith) r) k)
+applied-left NameNoprefix s k = absurd (⊎_elim (λ e. cc) (λ r. ⊎_elim (λ e. cc) (λ e. cc) r) k)
+applied-left NameUndecorate s k = absurd (⊎_elim (λ e. cc) (λ r. ⊎_elim (λ e. cc) (λ e. cc) r) k)
 applied-left NameExportas s k = record { start = refl; size = refl; bytes = part-whole s; within = omega arith }

@@ -17,9 +17,6 @@ use Rattle.names.specs.Mangler.{mangling_of}
 use Rattle.names.specs.declared.mangler.Mangling.TheVariants as M
 use Rattle.lists.proofs.Records.{base-name, base-symbol}
 use Rattle.plans.specs.Shape.{other_import}
-use Rattle.plans.specs.declared.Source.TheVariants as S
-use Rattle.plans.specs.declared.Choice.TheVariants as C
-use Rattle.plans.specs.declared.Shape.TheVariants as H
 
 -- ---- import_name
 

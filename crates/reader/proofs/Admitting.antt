@@ -1,24 +1,19 @@
 -- Which names, machines and types are admitted, by the outcomes of the tests.
-use Prim.Native.Nat.{ℕ, ◌+◌, ◌-◌, ◌≤◌, ◌<◌}
+use Prim.Native.Nat.{ℕ, ◌-◌, ◌≤◌, ◌<◌}
 use mathlib.Core.Path.{◌≡◌, refl, sym, ap, ◌∙◌, subst}
 use mathlib.Core.Bool.{Bool, true, false, ◌&&◌, not}
-use mathlib.Core.List.{[]}
-use native.Mathlib.Decide.{dec_le}
 use native.Mathlib.Omega.{arith}
-use lib.ListN.{length, drop, drop_of_length-le, length-drop}
+use lib.ListN.{length, drop}
 use lib.Dec.{leb}
 use borrow.Author.Tests.{eq-eqb, ne_eqb, le-leb, lt-leb}
 use Rattle.wire.specs.Bytes.{Bytes, if◌then◌else◌, holds, before, part}
-use Rattle.wire.specs.Writes as W
-use Rattle.wire.proofs.Writes.{found-there, found-none, found-as}
 use Rattle.wire.proofs.Bytes.{and-first}
-use Rattle.wire.proofs.Parts.{part-last, length-before, take-before, before-free, part-before}
+use Rattle.wire.proofs.Parts.{part-last, before-free, part-before}
 use Rattle.format.specs.Machines.{known, hybrid, arm64x}
 use Rattle.format.specs.Names.{barred_dll}
 use Rattle.format.specs.Reader.{between, admits_dll, ordinary, text_at}
 use Rattle.coff.specs.Machines.{machine_of, row_of}
 use Rattle.coff.specs.declared.machines.Machine.{Machine}
-use Rattle.coff.specs.declared.machines.Found.{Found}
 use Rattle.coff.specs.declared.machines.Found.TheVariants.{Known, Unknown}
 use Rattle.reader.specs.Answers.{Clear, ordinary_of, Ordinary, admits_names, admits_types}
 

@@ -1,0 +1,30 @@
+use Rattle.std.proofs.Common.{◌-◌, ◌<◌, refl, ◌∙◌, arith, rules}
+use Rattle.lists.proofs.Records.{held}
+use Rattle.format.specs.Exports.{both_counts}
+use Rattle.keys.proofs.Slots.{clear-by, all-by}
+use Rattle.keys.proofs.insert_all.Goals as goal
+
+pub clear-requires : goal.clear-requires
+clear-requires c =
+    c.requires.in_bounds
+
+pub loop-k-init : goal.loop-k-init
+loop-k-init c =
+    (search rules, c.requires.from_le_to.0, refl, clear-by _ _ _ c.clear.ensures)
+
+pub insert_record-requires : goal.insert_record-requires
+insert_record-requires c =
+    let inside : c.loop-k.k < both_counts c.args.b.now = omega (arith, c.loop-k-test.true, c.requires.from_le_to.1) in
+    record { in_bounds = omega (arith, c.loop-k.invariant.2, c.clear.auto.slots, c.requires.in_bounds); entered = c.loop-k.invariant.3; b_value = c.requires.b_value; machine_nonzero = c.requires.machine_nonzero; from_le_k = (c.loop-k.invariant.0, inside); held = held _ _ c.requires.b_value inside }
+
+pub loop-k-preserved : goal.loop-k-preserved
+loop-k-preserved c =
+    (omega arith, omega arith, c.insert_record.auto.slots ∙ c.loop-k.invariant.2, c.insert_record.ensures)
+
+pub shape_of-slots : goal.shape_of-slots
+shape_of-slots c =
+    c.loop-k.invariant.2 ∙ c.clear.auto.slots
+
+pub returns : goal.returns
+returns c =
+    all-by _ _ c.loop-k.k _ _ c.loop-k.invariant.1 (omega (arith, c.loop-k-test.false)) c.loop-k.invariant.3

@@ -1,0 +1,29 @@
+-- `plans::check::check_both` meets its contract.
+use Prim.Native.Nat.{ℕ, ◌+◌}
+use mathlib.Core.Path.{sym, ap, ◌∙◌}
+use native.Mathlib.Omega.{arith}
+use Rattle.format.proofs.Listed.{listed}
+use Rattle.plans.proofs.Accepting.{both-stop, both-on}
+use Rattle.plans.proofs.check.check_both.Goals as goal
+
+pub u32_at-first-requires : goal.u32_at-first-requires
+u32_at-first-requires c = let l = listed _ c.requires.b_value in omega (arith, l.shape.headed)
+
+pub u32_at-requires : goal.u32_at-requires
+u32_at-requires c =
+    let l = listed _ c.requires.b_value in omega (arith, l.shape.headed)
+
+pub overflow_add-both : goal.overflow_add-both
+overflow_add-both c =
+    let l = listed _ c.requires.b_value in omega (arith, l.shape.firsts, l.shape.natives, c.u32_at-first.ensures, c.u32_at.ensures)
+
+pub returns-in-Refused : goal.returns-in-Refused
+returns-in-Refused c =
+    λ compat. both-stop _ _ _ _ _ c.u32_at-first.ensures
+    (rw c.first_machine.ensures.0 at (sym c.check_names-firsts.ensures ∙ c.in-Refused.is))
+
+pub returns : goal.returns
+returns c =
+    λ compat. let e = rw c.first_machine.ensures.0 at (sym c.check_names-firsts.ensures ∙ c.in_default.is) in
+    (rw c.native_machine.ensures.0 at c.check_names.ensures) ∙ both-on _ _ _ _ c.u32_at-first.ensures
+    (ap (λ (m : ℕ). c.u32_at-first.result + m) c.u32_at.ensures) e
