@@ -1,4 +1,4 @@
-use Rattle.std.proofs.Common.{◌-◌, ◌<◌, length, refl, ◌∙◌, arith, rules}
+use Rattle.std.proofs.Common.{◌<◌, length, refl, ◌∙◌, arith, rules}
 use Rattle.keys.proofs.Slots.{free-next}
 use Rattle.keys.proofs.clear.Goals as goal
 

@@ -1,4 +1,4 @@
-use Rattle.std.proofs.Common.{◌-◌, ◌<◌, ◌≤◌, length, sym, refl, ◌∙◌, arith, length-set, rules}
+use Rattle.std.proofs.Common.{◌<◌, ◌≤◌, length, sym, refl, ◌∙◌, arith, length-set, rules}
 use Rattle.lists.proofs.Records.{held}
 use Rattle.keys.proofs.Targets.{target-of, stored-skip, stored-next, stored-all, earlier-stays}
 use Rattle.keys.proofs.find_all.Goals as goal

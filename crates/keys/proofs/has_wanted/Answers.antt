@@ -1,4 +1,4 @@
-use Rattle.std.proofs.Common.{◌-◌, sym, refl, ◌∙◌, arith, rules}
+use Rattle.std.proofs.Common.{sym, refl, ◌∙◌, arith, rules}
 use Rattle.lists.proofs.Records.{held}
 use Rattle.keys.proofs.Targets.{wanted-here, wanted-later, wanted-end}
 use Rattle.keys.proofs.has_wanted.Goals as goal

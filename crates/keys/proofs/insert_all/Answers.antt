@@ -1,4 +1,4 @@
-use Rattle.std.proofs.Common.{◌-◌, ◌<◌, refl, ◌∙◌, arith, rules}
+use Rattle.std.proofs.Common.{◌<◌, refl, ◌∙◌, arith, rules}
 use Rattle.lists.proofs.Records.{held}
 use Rattle.format.specs.Exports.{both_counts}
 use Rattle.keys.proofs.Slots.{clear-by, all-by}

@@ -1,4 +1,4 @@
-use Rattle.std.proofs.Common.{◌-◌, refl, arith, rules}
+use Rattle.std.proofs.Common.{refl, arith, rules}
 use Rattle.lists.proofs.Records.{held}
 use Rattle.keys.proofs.Slots.{spot-free, spot-old, spot-other, spot-unlike, spot-used, spot-full}
 use Rattle.keys.proofs.seek.Goals as goal

@@ -1,4 +1,4 @@
-use Rattle.std.proofs.Common.{◌-◌, sym, refl, ◌∙◌, arith, rules}
+use Rattle.std.proofs.Common.{sym, refl, ◌∙◌, arith, rules}
 use Rattle.keys.proofs.Hashing.{hash-step, hash-end}
 use Rattle.keys.proofs.hash.hash.Goals as goal
 

@@ -1,0 +1,19 @@
+-- `walks::pen::draw_thunk` meets its contract.
+use Rattle.walks.proofs.Pens.{room-one, drew-noted, drew-empty}
+use Rattle.walks.proofs.pen.draw_thunk.Goals as goal
+
+pub moved-requires : goal.moved-requires
+moved-requires c =
+    room-one c.requires.room c.thunk_size-size.ensures
+
+pub returns-then-out-eq0 : goal.returns-then-out-eq0
+returns-then-out-eq0 c =
+    drew-empty _ c.thunk_size-size.ensures c.if-out-eq0.true c.moved.ensures.0 c.moved.ensures.1
+
+pub noted-requires : goal.noted-requires
+noted-requires c =
+    room-one c.requires.room c.thunk_size-size.ensures
+
+pub returns : goal.returns
+returns c =
+    drew-noted _ c.thunk_size-size.ensures c.at_of-at.ensures c.create_null_thunk.ensures c.noted.ensures

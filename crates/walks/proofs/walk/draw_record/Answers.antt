@@ -1,0 +1,44 @@
+-- `walks::walk::draw_record` meets its contract.
+use mathlib.Core.Path.{sym, ap, ◌∙◌}
+use Rattle.walks.proofs.Pens.{room-as, drew-as, drew-none}
+use native.Mathlib.Omega.{arith}
+use lib.ListN.{length}
+use mathlib.Core.Option.{some}
+use Rattle.plans.proofs.Publics.{public-base, public-renamed, string-length, base-length}
+use Rattle.walks.proofs.Records.{at-private, record-unnamed, record-by, record-11}
+use Rattle.walks.proofs.walk.draw_record.Goals as goal
+
+pub returns-then-absent : goal.returns-then-absent
+returns-then-absent c =
+    drew-as (record-unnamed _ _ _ _ _ _ _ c.if-later.true (sym c.absent.ensures ∙ c.if-absent.true)) (drew-none _ _ _)
+
+pub returns-then-is_private : goal.returns-then-is_private
+returns-then-is_private c = drew-as (at-private _ _ _ (sym c.is_private.ensures ∙ c.if-is_private.true)) (drew-none _ _ _)
+
+pub draw_named-requires : goal.draw_named-requires
+draw_named-requires c = record { room = room-as (sym (record-by c.args.later _ _ _ _ _ _ (sym c.is_private.ensures ∙ c.if-is_private.false) _ (public-base _ _ (sym c.absent-2.ensures ∙ c.if-absent-2.true) ∙ ap some (sym c.base.ensures)))) c.requires.room; held = c.requires.held; b_value = c.requires.b_value; from_le_k = c.requires.from_le_k; dll_len_bound = (c.requires.dll_len_bound, omega (arith, ap length c.base.ensures, base-length _ _ c.requires.held)); resolved = c.requires.resolved }
+
+pub returns-then-absent-2 : goal.returns-then-absent-2
+returns-then-absent-2 c =
+    drew-as
+    (record-by c.args.later _ _ _ _ _ _ (sym c.is_private.ensures ∙ c.if-is_private.false) _ (public-base _ _ (sym c.absent-2.ensures ∙ c.if-absent-2.true) ∙ ap some (sym c.base.ensures)))
+    c.draw_named.ensures
+
+pub replace-r-requires : goal.replace-r-requires
+replace-r-requires c =
+    (omega (arith, ap length c.base-2.ensures, base-length _ _ c.requires.held), omega (arith, ap length c.string.ensures, string-length _ _ 0 c.requires.held (omega arith), c.requires.held.named), omega (arith, ap length c.string-2.ensures, string-length _ _ 1 c.requires.held (omega arith), c.requires.held.few 1 (omega arith)))
+
+pub returns-then-not-found : goal.returns-then-not-found
+returns-then-not-found c =
+    drew-as
+    (record-11 c.args.later _ _ _ _ _ _ (sym c.is_private.ensures ∙ c.if-is_private.false) (public-renamed _ _ _ _ _ _ (sym c.absent-2.ensures ∙ c.if-absent-2.false) c.base-2.ensures c.string.ensures c.string-2.ensures (c.replace-r.ensures.fails (c.if-not-found.true))))
+    (drew-none _ _ _)
+
+pub draw_named-requires-2 : goal.draw_named-requires-2
+draw_named-requires-2 c = record { room = room-as (sym (record-by c.args.later _ _ _ _ _ _ (sym c.is_private.ensures ∙ c.if-is_private.false) _ (public-renamed _ _ _ _ _ _ (sym c.absent-2.ensures ∙ c.if-absent-2.false) c.base-2.ensures c.string.ensures c.string-2.ensures (c.replace-r.ensures.given (c.if-not-found.false))))) c.requires.room; held = c.requires.held; b_value = c.requires.b_value; from_le_k = c.requires.from_le_k; dll_len_bound = (c.requires.dll_len_bound, omega (arith, c.replace-r.ensures.used, c.replace-r.ensures.fits)); resolved = c.requires.resolved }
+
+pub returns : goal.returns
+returns c =
+    drew-as
+    (record-by c.args.later _ _ _ _ _ _ (sym c.is_private.ensures ∙ c.if-is_private.false) _ (public-renamed _ _ _ _ _ _ (sym c.absent-2.ensures ∙ c.if-absent-2.false) c.base-2.ensures c.string.ensures c.string-2.ensures (c.replace-r.ensures.given (c.if-not-found.false))))
+    c.draw_named-2.ensures

@@ -1,0 +1,19 @@
+-- `walks::walk::is_direct` meets its contract.
+use mathlib.Core.Path.{sym, ◌∙◌}
+use Rattle.walks.proofs.Records.{direct-ec, direct-empty, direct-exported, direct-is}
+use Rattle.walks.proofs.walk.is_direct.Goals as goal
+
+pub returns-then-machine-eq-IMAGE_FILE_MACHINE_ARM64EC : goal.returns-then-machine-eq-IMAGE_FILE_MACHINE_ARM64EC
+returns-then-machine-eq-IMAGE_FILE_MACHINE_ARM64EC c = direct-ec _ _ _ _ c.if-machine-eq-IMAGE_FILE_MACHINE_ARM64EC.true
+
+pub returns-then-public-eq0 : goal.returns-then-public-eq0
+returns-then-public-eq0 c = direct-empty _ _ _ _ c.if-machine-eq-IMAGE_FILE_MACHINE_ARM64EC.false c.if-public-eq0.true
+
+pub returns-then-not-absent : goal.returns-then-not-absent
+returns-then-not-absent c =
+    direct-exported _ _ _ _ c.if-machine-eq-IMAGE_FILE_MACHINE_ARM64EC.false c.if-public-eq0.false (sym c.absent.ensures ∙ c.if-not-absent.true)
+
+pub returns : goal.returns
+returns c =
+    direct-is _ _ _ _ c.if-machine-eq-IMAGE_FILE_MACHINE_ARM64EC.false c.if-public-eq0.false (sym c.absent.ensures ∙ c.if-not-absent.false)
+    c.absent-2.ensures
