@@ -5,41 +5,43 @@
 mod table; // table.rt: the table and its rows
 mod rules; // rules.rt: a row's question put to the proved functions
 
-use libc::{STDIN_FILENO, STDOUT_FILENO};
+ghost use Rattle.std.specs.Prelude.{◌≡◌, length};
 
-fn print(text: &[u8]) {
-    io::write_all(STDOUT_FILENO, text);
+use std::io;
+
+// Room for the table.
+fn buffer() -> [u8; 65536]
+    ensures { 65536 ≡ length result }
+{
+    [0; 65536]
 }
 
 // The line of one rule.
-fn print_tally(t: &[u8], op: u8, label: &[u8]) {
+fn print_tally(rt: &impl Print, t: &[u8], op: u8, label: &str) -> io::Result<()> {
     let told = table::go_through(t, op);
-    print(label);
-    io::print_decimal(STDOUT_FILENO, told.cases as u64);
-    print(b" cases, ");
-    io::print_decimal(STDOUT_FILENO, told.differ as u64);
-    print(b" differ\n");
+    let cases = told.cases;
+    let differ = told.differ;
+    println!(rt; "{label}: {cases} cases, {differ} differ")
 }
 
-fn print_tallies(t: &[u8]) {
-    print_tally(t, table::REPLACE, b"replace: ");
-    print_tally(t, table::STEM, b"stem: ");
-    print_tally(t, table::DEMANGLE, b"demangle: ");
-    print_tally(t, table::MANGLE, b"mangle: ");
-    print_tally(t, table::TYPE, b"name type: ");
-    print_tally(t, table::WANTED, b"wanted name: ");
+fn print_tallies(rt: &impl Print, t: &[u8]) -> io::Result<()> {
+    print_tally(rt, t, table::REPLACE, "replace")?;
+    print_tally(rt, t, table::STEM, "stem")?;
+    print_tally(rt, t, table::DEMANGLE, "demangle")?;
+    print_tally(rt, t, table::MANGLE, "mangle")?;
+    print_tally(rt, t, table::TYPE, "name type")?;
+    print_tally(rt, t, table::WANTED, "wanted name")
 }
 
-fn run(t: &[u8]) {
+fn run(rt: &impl Print, t: &[u8]) -> io::Result<()> {
     if table::whole(t) {
-        print_tallies(t);
-        return;
+        return print_tallies(rt, t);
     }
-    print(b"not a table of names\n");
+    println!(rt; "not a table of names")
 }
 
-fn main() {
-    let mut buffer = io::large_buffer();
-    let n = io::read_full(STDIN_FILENO, &mut buffer);
-    run(&buffer[..n]);
+fn main(rt: HostRuntime) -> io::Result<()> {
+    let mut buffer = buffer();
+    let n = input::read_full(&mut rt.stdin(), &mut buffer)?;
+    run(&rt, &buffer[..n])
 }

@@ -7,7 +7,7 @@ mod replay; // replay.rt: a case put to the writer
 
 ghost use Rattle.std.specs.Prelude.{◌≡◌, length};
 
-use libc::{STDIN_FILENO, STDOUT_FILENO};
+use std::io;
 
 // Room for the whole list; the oracle's tests see that it is enough.
 fn buffer() -> [u8; 400000]
@@ -16,33 +16,24 @@ fn buffer() -> [u8; 400000]
     [0; 400000]
 }
 
-fn print(text: &[u8]) {
-    io::write_all(STDOUT_FILENO, text);
-}
-
-fn print_count(n: usize, label: &[u8]) {
-    io::print_decimal(STDOUT_FILENO, n as u64);
-    print(label);
-}
-
-fn print_tally(t: &[u8]) {
+fn print_tally(rt: &impl Print, t: &[u8]) -> io::Result<()> {
     let told = answers::go_through(t);
-    print_count(told.cases, b" cases, ");
-    print_count(told.written, b" written, ");
-    print_count(told.refused, b" refused, ");
-    print_count(told.differ, b" differ\n");
+    let cases = told.cases;
+    let written = told.written;
+    let refused = told.refused;
+    let differ = told.differ;
+    println!(rt; "{cases} cases, {written} written, {refused} refused, {differ} differ")
 }
 
-fn run(t: &[u8]) {
+fn run(rt: &impl Print, t: &[u8]) -> io::Result<()> {
     if answers::whole(t) {
-        print_tally(t);
-        return;
+        return print_tally(rt, t);
     }
-    print(b"not a list of answers\n");
+    println!(rt; "not a list of answers")
 }
 
-fn main() {
+fn main(rt: HostRuntime) -> io::Result<()> {
     let mut buffer = buffer();
-    let n = io::read_full(STDIN_FILENO, &mut buffer);
-    run(&buffer[..n]);
+    let n = input::read_full(&mut rt.stdin(), &mut buffer)?;
+    run(&rt, &buffer[..n])
 }

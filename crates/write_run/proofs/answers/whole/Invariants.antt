@@ -1,0 +1,12 @@
+-- `write_run::answers::whole` meets its contract. The loop: so many cases are passed; there are no more of them than bytes.
+use Prim.Native.Nat.{◌≤◌, ◌+◌, ◌-◌}
+use mathlib.Core.Path.{◌≡◌}
+use lib.ListN.{length}
+use Rattle.write_run.specs.Cases.{case_at}
+use Rattle.write_run.proofs.answers.whole.Given as goal
+
+abbrev pub invariant-loop-at : goal.invariant-loop-at
+invariant-loop-at l = (l.at ≤ length l.t + 4) × (l.cases ≤ l.at) × (l.at ≡ case_at l.t l.cases)
+
+abbrev pub decreases-loop-at : goal.decreases-loop-at
+decreases-loop-at l = length l.t + 1 - l.at

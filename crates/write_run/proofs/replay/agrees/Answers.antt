@@ -1,0 +1,15 @@
+-- `write_run::replay::agrees` meets its contract.
+use Rattle.write_run.proofs.Agreements.{differs, agrees-written, agrees-refused}
+use borrow.Author.Rules.{rules}
+use Rattle.write_run.proofs.replay.agrees.Goals as goal
+
+pub returns-then-not-is_asked : goal.returns-then-not-is_asked
+returns-then-not-is_asked c = differs
+
+pub returns-in-Total : goal.returns-in-Total
+returns-in-Total c = λ e.
+    agrees-written c.write.ensures (search rules) c.in-Total.is _ _ _ c.requires (c.is_asked.ensures (c.if-not-is_asked.false)) (c.is_written.ensures e)
+
+pub returns-in-Refused : goal.returns-in-Refused
+returns-in-Refused c = λ e.
+    agrees-refused c.write.ensures (search rules) c.in-Refused.is _ _ _ c.requires (c.is_asked.ensures (c.if-not-is_asked.false)) (c.is_refused.ensures e)
