@@ -1,4 +1,5 @@
 -- The table of machines: each row is that of its number, and the numbers are the known ones.
+use Rattle.std.specs.Prelude.{if◌then◌else◌}
 use Prim.Native.Nat.{ℕ, ◌+◌, ◌≤◌, ◌<◌}
 use mathlib.Core.Path.{◌≡◌, refl, sym, ap, ◌∙◌, subst}
 use mathlib.Core.Bool.{Bool, true, false, ◌||◌, or_assoc, or-false}
@@ -7,7 +8,6 @@ use native.Mathlib.Omega.{arith}
 use lib.Dec.{eqb}
 use lib.ListN.{length, get_or, drop, drop_of_length-le}
 use borrow.Author.Tests.{eq-eqb, ne_eqb, eqb-true}
-use Rattle.wire.specs.Bytes.{if◌then◌else◌}
 use Rattle.wire.proofs.Bytes.{drop-step}
 use Rattle.format.specs.Machines.{known, relocation, wide, hybrid, first_machine, native_machine, i386, armnt, amd64, arm64, arm64ec, arm64x, IMAGE-REL-I386-DIR32NB, IMAGE-REL-ARM-ADDR32NB, IMAGE-REL-AMD64-ADDR32NB, IMAGE-REL-ARM64-ADDR32NB}
 use Rattle.coff.specs.Machines.{row_of, machine_of, IsMachine}

@@ -1,6 +1,5 @@
 -- The machines of the table, as the scope paper's definitions have them.
-use Rattle.std.specs.Prelude.{ℕ, ◌≡◌, true}
-use Rattle.wire.specs.Bytes.{if◌then◌else◌}
+use Rattle.std.specs.Prelude.{ℕ, ◌≡◌, true, if◌then◌else◌}
 use Rattle.format.specs.Machines.{known, relocation, wide}
 use Rattle.coff.specs.declared.machines.Machine.{Machine}
 use Rattle.coff.specs.declared.machines.Found.{Found}

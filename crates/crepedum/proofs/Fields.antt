@@ -1,4 +1,5 @@
 -- Fields that a caller lends: values put into the first of them, and what an answer's values are.
+use Rattle.std.specs.Prelude.{if◌then◌else◌}
 use Prim.Native.Nat.{ℕ, ◌+◌, ◌*◌, ◌≤◌, ◌<◌}
 use mathlib.Core.Path.{◌≡◌, refl, sym, ap, ◌∙◌, subst}
 use mathlib.Core.Bool.{Bool, true, false, not}
@@ -11,7 +12,7 @@ use lib.ListN.{length, get_or, set, take, drop}
 use lib.Seq.{take-suc, take_all}
 use lib.Dec.{eqb, leb, ltb}
 use borrow.Author.Tests.{lt-ltb, le-ltb}
-use Rattle.wire.specs.Bytes.{Bytes, if◌then◌else◌}
+use Rattle.wire.specs.Bytes.{Bytes}
 use Rattle.wire.specs.Writes.{Wrote}
 use Rattle.wire.proofs.Bytes.{and-first, and-each}
 use Rattle.wire.proofs.Writes.{◌⨾◌, wrote-as, wrote-one, wrote-length, wrote-exact}

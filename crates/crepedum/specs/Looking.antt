@@ -1,6 +1,6 @@
 -- What a program in another language is answered for a symbol, and what its fields then hold.
-use Rattle.std.specs.Prelude.{ℕ, ◌+◌, ◌*◌, List, ◌++◌, length, drop, ltb, leb}
-use Rattle.wire.specs.Bytes.{Bytes, if◌then◌else◌}
+use Rattle.std.specs.Prelude.{ℕ, ◌+◌, ◌*◌, List, ◌++◌, length, drop, ltb, leb, if◌then◌else◌}
+use Rattle.wire.specs.Bytes.{Bytes}
 use Rattle.format.specs.Answers.{looked_number, where_number, looked_values}
 use Rattle.format.specs.Lookup.{lookup}
 use Rattle.format.specs.declared.Looked.{Looked}

@@ -1,6 +1,5 @@
 -- What a program in another language is answered for a member, and what its fields then hold.
-use Rattle.std.specs.Prelude.{ℕ, ◌+◌, ◌*◌, ◌<◌, List, ◌++◌, length, drop, ltb}
-use Rattle.wire.specs.Bytes.{if◌then◌else◌}
+use Rattle.std.specs.Prelude.{ℕ, ◌+◌, ◌*◌, ◌<◌, List, ◌++◌, length, drop, ltb, if◌then◌else◌}
 use Rattle.format.specs.Answers.{read_number, layout_number, read_values}
 use Rattle.format.specs.declared.Span.{Span}
 use Rattle.format.specs.declared.Read.{Read}

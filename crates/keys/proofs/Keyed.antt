@@ -1,7 +1,8 @@
 -- The keys of records: one at most for each.
+use Rattle.std.specs.Prelude.{if◌then◌else◌}
 use Rattle.std.proofs.Common.{◌≡◌, ℕ, Bool, true, false, sym, ◌∙◌}
 use mathlib.Core.Bool.{false≢true}
-use Rattle.wire.specs.Bytes.{Bytes, if◌then◌else◌, same}
+use Rattle.wire.specs.Bytes.{Bytes, same}
 use Rattle.wire.proofs.Bytes.{same-eq, same-refl}
 use Rattle.format.specs.Exports.{is_private, export_at}
 use Rattle.format.specs.Names.{apply}

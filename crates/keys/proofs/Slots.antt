@@ -1,10 +1,11 @@
 -- Laws of the slot table, whatever the keys are, so long as a record has one key at most.
+use Rattle.std.specs.Prelude.{if◌then◌else◌}
 use Rattle.std.proofs.Common.{◌≡◌, ℕ, zero, suc, ◌+◌, ◌-◌, ◌%◌, ◌<◌, ◌≤◌, Bool, true, false, ◌&&◌, ◌||◌, eqb, List, [], length, set, sym, refl, ap, ◌∙◌, arith, get_or-set_other, get_or-set_same, eq-eqb, ne_eqb, eqb-true}
 use mathlib.Core.Bool.{false≢true}
 use mathlib.Core.Option.{Option, none, some, none-ne-some}
 use native.Mathlib.Decide.{dec_le}
 use borrow.Author.Tests.{eqb-false}
-use Rattle.wire.specs.Bytes.{Bytes, if◌then◌else◌, first}
+use Rattle.wire.specs.Bytes.{Bytes, first}
 use Rattle.laws.proofs.Names.{At, first-at}
 use Rattle.plans.specs.Keys.{last_in}
 use Rattle.search.proofs.Searches.{first-here, first-later}

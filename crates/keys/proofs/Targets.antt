@@ -1,10 +1,11 @@
 -- Laws of the targets: what is stored record by record, and whether there is anything to store.
+use Rattle.std.specs.Prelude.{if◌then◌else◌}
 use Rattle.std.proofs.Common.{◌≡◌, ℕ, zero, suc, ◌+◌, ◌-◌, ◌<◌, ◌≤◌, Bool, true, false, eqb, List, length, get_or, set, sym, refl, ap, ◌∙◌, arith, get_or-set_other, get_or-set_same, eqb-true}
 use mathlib.Core.Bool.{false≢true}
 use mathlib.Core.Option.{Option, none, some}
 use native.Mathlib.Decide.{dec_le}
 use borrow.Author.Tests.{eqb-false}
-use Rattle.wire.specs.Bytes.{Bytes, if◌then◌else◌}
+use Rattle.wire.specs.Bytes.{Bytes}
 use Rattle.format.specs.Exports.{field_at, absent_at, bytes_at}
 use Rattle.plans.specs.Keys.{key_at, last_in}
 use Rattle.keys.specs.Targets.{any_wanted, target_of, Resolved}

@@ -1,7 +1,7 @@
 -- A table of 8,192 slots, as a function of the place: each has a state, a hash and a record's number. A key is looked for from the slot of its hash on.
-use Rattle.std.specs.Prelude.{◌≡◌, ℕ, zero, suc, ◌+◌, ◌%◌, ◌<◌, ◌≤◌, Bool, ◌&&◌, ◌||◌, List, [], ◌∷◌, ◌==◌, nat_eq, slice_index, slice_index_or}
+use Rattle.std.specs.Prelude.{◌≡◌, ℕ, zero, suc, ◌+◌, ◌%◌, ◌<◌, ◌≤◌, Bool, ◌&&◌, ◌||◌, List, [], ◌∷◌, ◌==◌, nat_eq, slice_index, slice_index_or, if◌then◌else◌}
 use Rattle.std.proofs.Math.Option.{Option, none, some}
-use Rattle.wire.specs.Bytes.{Bytes, if◌then◌else◌, first}
+use Rattle.wire.specs.Bytes.{Bytes, first}
 use Rattle.plans.specs.Keys.{last_in}
 use Rattle.keys.specs.Hash.{hash_of}
 use Rattle.keys.specs.declared.Slot.{Slot}

@@ -1,7 +1,7 @@
 -- The targets of a list's aliases, by the records' numbers.
-use Rattle.std.specs.Prelude.{◌≡◌, ℕ, zero, suc, ◌+◌, ◌<◌, ◌≤◌, Bool, true, false, List, length, slice_index}
+use Rattle.std.specs.Prelude.{◌≡◌, ℕ, zero, suc, ◌+◌, ◌<◌, ◌≤◌, Bool, true, false, List, length, slice_index, if◌then◌else◌}
 use Rattle.std.proofs.Math.Option.{Option, none, some}
-use Rattle.wire.specs.Bytes.{Bytes, if◌then◌else◌}
+use Rattle.wire.specs.Bytes.{Bytes}
 use Rattle.format.specs.Exports.{field_at, absent_at, bytes_at}
 use Rattle.plans.specs.Keys.{key_at, last_in}
 

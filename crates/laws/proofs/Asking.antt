@@ -1,4 +1,5 @@
 -- 02, "Split asking from writing": the two operations agree wherever writing has no refusal of its own.
+use Rattle.std.specs.Prelude.{if◌then◌else◌}
 use Prim.Native.Nat.{ℕ, zero, suc, ◌+◌, ◌≤◌, ◌<◌}
 use mathlib.Core.Path.{◌≡◌, refl, sym, ◌∙◌}
 use mathlib.Core.Bool.{Bool, true, false, ◌&&◌, ◌||◌, not}
@@ -8,7 +9,7 @@ use native.Mathlib.Omega.{arith}
 use lib.ListN.{length}
 use lib.Dec.{ltb, eqb}
 use borrow.Author.Tests.{ltb-true, ltb-false}
-use Rattle.wire.specs.Bytes.{Bytes, if◌then◌else◌, starts, is_some}
+use Rattle.wire.specs.Bytes.{Bytes, starts, is_some}
 use Rattle.format.specs.Machines.{first_machine, native_machine}
 use Rattle.format.specs.Exports.{Export, first_count, native_count, field_at, dll_field, is_private, export_at}
 use Rattle.format.specs.Names.{hash, question, tagged, demangle}

@@ -1,4 +1,5 @@
 -- Demand 3: where each symbol of an accepted list leads, from the written bytes alone.
+use Rattle.std.specs.Prelude.{if◌then◌else◌}
 use Prim.Native.Nat.{ℕ}
 use mathlib.Core.Path.{◌≡◌, refl, sym, ap, ◌∙◌, subst}
 use mathlib.Core.Logic.{◌⊎◌, inl, inr, ⊎_elim}
@@ -7,7 +8,7 @@ use mathlib.Core.Option.{Option, none, some}
 use mathlib.Core.List.{List, [], ◌∷◌, Memᴰ}
 use native.Mathlib.Omega.{arith}
 use lib.Dec.{eqb}
-use Rattle.wire.specs.Bytes.{Bytes, Octets, if◌then◌else◌}
+use Rattle.wire.specs.Bytes.{Bytes, Octets}
 use Rattle.wire.proofs.Bytes.{join-within, within-join}
 use Rattle.format.specs.Machines.{arm64ec, first_machine, native_machine}
 use Rattle.format.specs.Exports.{Export, dll_name, first_exports, native_exports}

@@ -1,4 +1,5 @@
 -- What the lookup's answer means: where a symbol leads, told from the members alone.
+use Rattle.std.specs.Prelude.{if◌then◌else◌}
 use Prim.Native.Nat.{ℕ, suc, ◌+◌, ◌-◌, ◌≤◌}
 use mathlib.Core.Path.{◌≡◌, refl, sym, ap, ◌∙◌}
 use mathlib.Core.Bool.{Bool, true, false, ◌||◌}
@@ -9,7 +10,7 @@ use native.Mathlib.Omega.{arith}
 use lib.ListN.{length, take, drop, length-drop}
 use lib.Seq.{take_all}
 use lib.Dec.{eqb}
-use Rattle.wire.specs.Bytes.{Bytes, if◌then◌else◌, part, before, starts}
+use Rattle.wire.specs.Bytes.{Bytes, part, before, starts}
 use Rattle.wire.proofs.Bytes.{part-past, part-part}
 use Rattle.wire.proofs.Parts.{take-before, length-before}
 use Rattle.format.specs.Names.{question, at_sign, underscore, prefixed, noprefix, undecorate, apply, dropped}

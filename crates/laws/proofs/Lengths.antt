@@ -1,4 +1,5 @@
 -- How long the records, the string tables, the names and the five members are.
+use Rattle.std.specs.Prelude.{if◌then◌else◌}
 use Prim.Native.Nat.{ℕ, ◌+◌, ◌*◌}
 use mathlib.Core.Path.{◌≡◌, refl}
 use mathlib.Core.Bool.{Bool, true, false}
@@ -8,7 +9,7 @@ use native.Mathlib.Omega.{arith}
 use lib.ListN.{length, length-append, length-replicate}
 use lib.IntN.{ℤ}
 use lib.Dec.{eqb}
-use Rattle.wire.specs.Bytes.{Bytes, if◌then◌else◌, join}
+use Rattle.wire.specs.Bytes.{Bytes, join}
 use Rattle.format.specs.Names.{stem}
 use Rattle.format.specs.Layouts.{descriptor, null_descriptor, null_thunk, short, weak, file_header_size, section_size, relocation_size, symbol_size, import_descriptor_size, import_header_size, strings_at, file_header, section, reloc, symbol, import_descriptor, long_name, auxiliary, strings, string_table, descriptor_name, null_name, thunk_name, compat_stem, descriptor_bytes, null_descriptor_bytes, null_thunk_bytes, import_header, short_bytes, short_strings, weak_bytes, slot_size, encode}
 

@@ -1,4 +1,5 @@
 -- Every member of an accepted list is one that the reader admits.
+use Rattle.std.specs.Prelude.{if◌then◌else◌}
 use Prim.Native.Nat.{ℕ, zero, suc, ◌+◌, ◌-◌, ◌≤◌, ◌<◌}
 use mathlib.Core.Path.{◌≡◌, refl, sym}
 use mathlib.Core.Logic.{◌⊎◌, ⊎_elim}
@@ -10,7 +11,7 @@ use native.Mathlib.Omega.{arith}
 use lib.ListN.{length, get_or, length-append, length-take}
 use lib.Dec.{eqb}
 use borrow.Author.Tests.{le-leb, lt-ltb}
-use Rattle.wire.specs.Bytes.{Bytes, Octets, ascii, if◌then◌else◌, same, holds, last, or_else}
+use Rattle.wire.specs.Bytes.{Bytes, Octets, ascii, same, holds, last, or_else}
 use Rattle.wire.proofs.Bytes.{and-first, and-next, both-true, or-next, holds-take, u16_at-small, join-within}
 use Rattle.format.specs.Machines.{i386, armnt, amd64, arm64, arm64ec, arm64x, known, hybrid, first_machine, native_machine}
 use Rattle.format.specs.Exports.{Export, dll_name, ordinal_at, export_at, exports_from, first_exports, native_exports, first_count, native_count, is_private}

@@ -1,4 +1,5 @@
 -- Laws of the name rules: how long names get, and that they hold no NUL where what they are made of holds none.
+use Rattle.std.specs.Prelude.{if◌then◌else◌}
 use Prim.Native.Nat.{ℕ, zero, suc, ◌+◌, ◌-◌, ◌≤◌, ◌<◌}
 use mathlib.Core.Path.{◌≡◌, refl, ap, ◌∙◌}
 use mathlib.Core.Logic.{◌⊎◌, inl, inr, ⊎_elim}
@@ -9,7 +10,7 @@ use native.Mathlib.Omega.{arith}
 use lib.ListN.{length, take, drop, length-append, length-take, length-drop}
 use lib.Dec.{eqb}
 use borrow.Author.Tests.{ne_eqb, eqb-false}
-use Rattle.wire.specs.Bytes.{Bytes, if◌then◌else◌, same, starts, holds, first, last, part, or_else}
+use Rattle.wire.specs.Bytes.{Bytes, same, starts, holds, first, last, part, or_else}
 use Rattle.wire.proofs.Bytes.{same-eq, holds-take, holds-drop, holds-neither}
 use Rattle.format.specs.Names.{underscore, occurs_at, find, splice, replace_once, replace, tag, cut, demangle, question, hash}
 

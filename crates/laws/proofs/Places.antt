@@ -1,4 +1,5 @@
 -- Where the strings of the five members stand: each name that `fields` returns by its place is there.
+use Rattle.std.specs.Prelude.{if◌then◌else◌}
 use Prim.Native.Nat.{ℕ, ◌+◌}
 use mathlib.Core.Path.{◌≡◌, refl, sym, ap, ◌∙◌}
 use mathlib.Core.Bool.{Bool, true, false}
@@ -8,7 +9,7 @@ use native.Mathlib.Omega.{arith}
 use lib.ListN.{length, drop}
 use lib.Seq.{drop-drop}
 use lib.Dec.{eqb}
-use Rattle.wire.specs.Bytes.{Bytes, ascii, if◌then◌else◌, part, join}
+use Rattle.wire.specs.Bytes.{Bytes, ascii, part, join}
 use Rattle.wire.proofs.Bytes.{drop-past, part-seam}
 use Rattle.format.specs.Machines.{wide}
 use Rattle.format.specs.Names.{stem}

@@ -1,4 +1,5 @@
 -- The reader finds what the writer wrote, and accepts nothing else; so a member's bytes are no other member's.
+use Rattle.std.specs.Prelude.{if◌then◌else◌}
 use Prim.Native.Nat.{ℕ, ◌+◌, ◌*◌, ◌-◌, ◌/◌, ◌%◌, ◌≤◌, ◌<◌}
 use mathlib.Core.Path.{◌≡◌, refl, sym, ap, ◌∙◌}
 use mathlib.Core.Bool.{Bool, true, false, not}
@@ -9,7 +10,7 @@ use lib.ListN.{length, drop, drop_of_length-le}
 use lib.Seq.{take_at}
 use lib.Dec.{eqb, leb, ltb}
 use borrow.Author.Tests.{eq-eqb, ne_eqb, eqb-true, leb-true, ltb-true}
-use Rattle.wire.specs.Bytes.{Bytes, ascii, if◌then◌else◌, u16_at, u32_at, part, join, same, holds}
+use Rattle.wire.specs.Bytes.{Bytes, ascii, u16_at, u32_at, part, join, same, holds}
 use Rattle.wire.proofs.Bytes.{and-first, and-each, or-either, not-true, same-refl, same-eq, holds-neither, before-seam, le16-back}
 use Rattle.format.specs.Machines.{i386, armnt, amd64, arm64, arm64ec, arm64x, known}
 use Rattle.format.specs.Names.{stem}

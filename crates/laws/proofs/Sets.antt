@@ -1,4 +1,5 @@
 -- A written set is valid, and its two lists are the two lists written.
+use Rattle.std.specs.Prelude.{if◌then◌else◌}
 use Prim.Native.Nat.{ℕ, suc, ◌+◌, ◌*◌, ◌-◌, ◌<◌}
 use mathlib.Core.Path.{◌≡◌, refl, sym, ap, ◌∙◌}
 use mathlib.Core.Logic.{◌⊎◌, ⊎_elim}
@@ -12,7 +13,7 @@ use lib.ListN.{length, take, drop, length-append, length-map}
 use lib.Seq.{drop-drop, drop_at, take_at}
 use lib.Dec.{eqb}
 use borrow.Author.Tests.{eq-eqb, le-leb}
-use Rattle.wire.specs.Bytes.{Bytes, Octets, if◌then◌else◌, u32_at, part, join}
+use Rattle.wire.specs.Bytes.{Bytes, Octets, u32_at, part, join}
 use Rattle.wire.proofs.Bytes.{drop-past, part-seam, u32_at-here, join-within}
 use Rattle.format.specs.Exports.{Export, dll_name}
 use Rattle.format.specs.Plan.{Plan, plain, deferred, refused, kind, plan}

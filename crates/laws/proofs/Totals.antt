@@ -1,4 +1,5 @@
 -- An accepted list's total is below 2^32, and so is every size and offset in it.
+use Rattle.std.specs.Prelude.{if◌then◌else◌}
 use Prim.Native.Nat.{ℕ, zero, suc, ◌+◌, ◌*◌, ◌-◌, ◌≤◌, ◌<◌}
 use mathlib.Core.Path.{◌≡◌, refl}
 use mathlib.Core.Logic.{◌⊎◌, ⊎_elim}
@@ -10,7 +11,7 @@ use native.Mathlib.Nat.{mul-suc}
 use native.Mathlib.Omega.{arith}
 use lib.ListN.{length, get_or, length-append, length-map, length-take}
 use lib.Dec.{eqb, ltb, leb}
-use Rattle.wire.specs.Bytes.{Bytes, Octets, if◌then◌else◌, join, last}
+use Rattle.wire.specs.Bytes.{Bytes, Octets, join, last}
 use Rattle.wire.proofs.Bytes.{and-first, and-next, and-each}
 use Rattle.format.specs.Machines.{arm64x, known, wide, first_machine, native_machine}
 use Rattle.format.specs.Names.{dot, up_to_dot, stem, barred_dll}

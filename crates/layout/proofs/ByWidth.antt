@@ -1,8 +1,8 @@
 -- What a machine's width decides, by the test of the width.
+use Rattle.std.specs.Prelude.{if◌then◌else◌}
 use Prim.Native.Nat.{ℕ}
 use mathlib.Core.Path.{◌≡◌, sym, ap}
 use mathlib.Core.Bool.{Bool}
-use Rattle.wire.specs.Bytes.{if◌then◌else◌}
 use Rattle.format.specs.Machines.{wide}
 use Rattle.format.specs.Layouts.{IMAGE-FILE-32BIT-MACHINE, IMAGE-SCN-ALIGN-4BYTES, IMAGE-SCN-ALIGN-8BYTES, characteristics, slot_size, slot_alignment}
 

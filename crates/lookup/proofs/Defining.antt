@@ -1,4 +1,5 @@
 -- The symbols that a member defines, compared one by one with a symbol.
+use Rattle.std.specs.Prelude.{if◌then◌else◌}
 use Prim.Native.Nat.{ℕ, ◌+◌, ◌-◌, ◌%◌, ◌≤◌}
 use mathlib.Core.Path.{◌≡◌, refl, sym, ap, ◌∙◌}
 use mathlib.Core.Bool.{Bool, true, false}
@@ -9,7 +10,7 @@ use native.Mathlib.Omega.{arith}
 use lib.ListN.{length, take, drop}
 use lib.Dec.{eqb}
 use borrow.Author.Tests.{eq-eqb, ne_eqb}
-use Rattle.wire.specs.Bytes.{Bytes, ascii, if◌then◌else◌, u16_at, u32_at, same, part}
+use Rattle.wire.specs.Bytes.{Bytes, ascii, u16_at, u32_at, same, part}
 use Rattle.wire.specs.Writes.{Found}
 use Rattle.wire.proofs.Bytes.{same-refl, same-differ}
 use Rattle.wire.proofs.Writes.{◌⨟◌, found-whole, whole-found}

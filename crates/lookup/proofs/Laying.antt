@@ -1,4 +1,5 @@
 -- A set that is laid out: members back to back, and what is within it.
+use Rattle.std.specs.Prelude.{if◌then◌else◌}
 use Prim.Native.Nat.{ℕ, zero, suc, ◌+◌, ◌-◌, ◌≤◌, ◌<◌}
 use mathlib.Core.Path.{◌≡◌, refl, sym, ap, ap₂, ◌∙◌}
 use mathlib.Core.Bool.{Bool, true, false}
@@ -9,7 +10,7 @@ use native.Mathlib.Omega.{arith}
 use lib.ListN.{length}
 use lib.Dec.{eqb, leb}
 use borrow.Author.Tests.{eq-eqb, ne_eqb, eqb-true, le-leb, lt-leb, leb-true}
-use Rattle.wire.specs.Bytes.{Bytes, if◌then◌else◌, u32_at, part}
+use Rattle.wire.specs.Bytes.{Bytes, u32_at, part}
 use Rattle.wire.proofs.Bytes.{and-each, length-part}
 use Rattle.format.specs.Library.{first_member_at}
 use Rattle.format.specs.Lookup.{offset_at, length_at, set_count, set_firsts, set_natives, back_to_back, laid_out}

@@ -1,4 +1,5 @@
 -- The lookup by numbers is the lookup; and an answered name lies within the set.
+use Rattle.std.specs.Prelude.{if◌then◌else◌}
 use Prim.Native.Nat.{ℕ, zero, suc, ◌+◌, ◌-◌, ◌≤◌, ◌<◌}
 use mathlib.Core.Path.{◌≡◌, refl, sym, ap, ap₂, ◌∙◌, subst}
 use mathlib.Core.Bool.{Bool, true, false}
@@ -10,7 +11,7 @@ use native.Mathlib.Omega.{arith}
 use lib.ListN.{length, take, drop}
 use lib.Dec.{eqb}
 use borrow.Author.Tests.{eq-eqb, ne_eqb}
-use Rattle.wire.specs.Bytes.{Bytes, if◌then◌else◌, part, first, is_some}
+use Rattle.wire.specs.Bytes.{Bytes, part, first, is_some}
 use Rattle.format.specs.Names.{apply, dropped}
 use Rattle.format.specs.Layouts.{Member, descriptor, null_descriptor, null_thunk, short, weak}
 use Rattle.format.specs.Reader.{read, span}

@@ -1,4 +1,5 @@
 -- Members read and in order, one after another: they are those of a member set.
+use Rattle.std.specs.Prelude.{if◌then◌else◌}
 use Prim.Native.Nat.{ℕ, zero, suc, ◌+◌, ◌-◌, ◌≤◌, ◌<◌}
 use mathlib.Core.Path.{◌≡◌, refl, sym, ap, ap₂, ◌∙◌}
 use mathlib.Core.Bool.{Bool, true, false, ◌&&◌}
@@ -8,7 +9,7 @@ use native.Mathlib.Nat.{sub-zero, add-zero, zero-add}
 use native.Mathlib.Omega.{arith}
 use lib.Dec.{eqb}
 use borrow.Author.Tests.{eq-eqb, ne_eqb, eqb-true, eqb-false}
-use Rattle.wire.specs.Bytes.{Bytes, if◌then◌else◌, part, is_some}
+use Rattle.wire.specs.Bytes.{Bytes, part, is_some}
 use Rattle.format.specs.Layouts.{Member}
 use Rattle.format.specs.Reader.{read}
 use Rattle.format.specs.Lookup.{Placed, offset_at, length_at, set_count, laid_out, place_first, read_from, rank, ordered, if_ordered, read_set}

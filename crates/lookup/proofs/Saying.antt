@@ -1,4 +1,5 @@
 -- What the reader's answer says of the member that the bytes are read as, with each name by its place.
+use Rattle.std.specs.Prelude.{if◌then◌else◌}
 use Prim.Native.Nat.{ℕ, ◌+◌, ◌≤◌}
 use mathlib.Core.Path.{◌≡◌, refl, sym, ap, ap₂, ◌∙◌, subst}
 use mathlib.Core.Bool.{Bool, true, false}
@@ -7,7 +8,7 @@ use mathlib.Core.List.{[]}
 use native.Mathlib.Omega.{arith}
 use lib.ListN.{length}
 use lib.Dec.{eqb}
-use Rattle.wire.specs.Bytes.{Bytes, if◌then◌else◌, part}
+use Rattle.wire.specs.Bytes.{Bytes, part}
 use Rattle.format.specs.Names.{apply, dropped}
 use Rattle.format.specs.Layouts.{Member, descriptor, null_descriptor, null_thunk, short, weak, import_header_size, encode}
 use Rattle.format.specs.Reader.{weak_strings_at, read, span, absent, fields, fields_or_refused, read_fields}

@@ -1,7 +1,7 @@
 -- The lookup over a set's members by their numbers in the directory, where a member is what its bytes are read as.
-use Rattle.std.specs.Prelude.{ℕ, zero, suc, ◌+◌, ◌≤◌, ◌≡◌, Bool, true, false, List, [], ◌∷◌, ◌++◌, length, eqb}
+use Rattle.std.specs.Prelude.{ℕ, zero, suc, ◌+◌, ◌≤◌, ◌≡◌, Bool, true, false, List, [], ◌∷◌, ◌++◌, length, eqb, if◌then◌else◌}
 use Rattle.std.proofs.Math.Option.{Option, none, some}
-use Rattle.wire.specs.Bytes.{Bytes, ascii, if◌then◌else◌, part, first, is_some}
+use Rattle.wire.specs.Bytes.{Bytes, ascii, part, first, is_some}
 use Rattle.format.specs.Names.{apply, dropped}
 use Rattle.format.specs.Layouts.{Member, descriptor, null_descriptor, null_thunk, short, weak}
 use Rattle.format.specs.Library.{imp}

@@ -1,4 +1,5 @@
 -- Members by the flag or the type that decides them.
+use Rattle.std.specs.Prelude.{if◌then◌else◌}
 use Prim.Native.Nat.{ℕ, ◌+◌, ◌*◌, ◌≤◌}
 use mathlib.Core.Path.{◌≡◌, refl, sym, ap, ◌∙◌}
 use mathlib.Core.Bool.{Bool, true, false, false≢true}
@@ -6,7 +7,7 @@ use mathlib.Core.List.{[], ◌∷◌, ◌++◌}
 use native.Mathlib.Omega.{arith}
 use borrow.Author.Tests.{eq-eqb, ne_eqb}
 use lib.Dec.{eqb}
-use Rattle.wire.specs.Bytes.{Bytes, ascii, if◌then◌else◌}
+use Rattle.wire.specs.Bytes.{Bytes, ascii}
 use Rattle.format.specs.Layouts.{short, short_bytes, short_strings, weak_bytes, encode}
 use Rattle.coff.specs.Import.{kind_number, type_number}
 use Rattle.coff.specs.declared.import.ImportType.{ImportType}

@@ -1,6 +1,6 @@
 -- Members by what is given.
-use Rattle.std.specs.Prelude.{ℕ, ◌≡◌, Bool, List, ◌++◌, length}
-use Rattle.wire.specs.Bytes.{Bytes, if◌then◌else◌}
+use Rattle.std.specs.Prelude.{ℕ, ◌≡◌, Bool, List, ◌++◌, length, if◌then◌else◌}
+use Rattle.wire.specs.Bytes.{Bytes}
 use Rattle.format.specs.Names.{stem}
 use Rattle.format.specs.Library.{imp}
 use Rattle.format.specs.Layouts.{Member, weak, strings, import_header}

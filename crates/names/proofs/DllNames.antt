@@ -1,4 +1,5 @@
 -- Laws of the DLL name: its stem, by the last dot, and what bars it.
+use Rattle.std.specs.Prelude.{if◌then◌else◌}
 use Prim.Native.Nat.{ℕ, zero, suc, ◌+◌, ◌-◌, ◌≤◌, ◌<◌}
 use mathlib.Core.Path.{◌≡◌, refl, sym, ap, ◌∙◌}
 use mathlib.Core.Bool.{Bool, true, false, ◌||◌}
@@ -9,7 +10,7 @@ use lib.ListN.{length, get_or, take, drop, drop_of_length-le}
 use lib.Seq.{length-take-le, take_all}
 use lib.Dec.{eqb}
 use borrow.Author.Tests.{eq-eqb, ne_eqb}
-use Rattle.wire.specs.Bytes.{Bytes, ascii, if◌then◌else◌, part, same, holds, last}
+use Rattle.wire.specs.Bytes.{Bytes, ascii, part, same, holds, last}
 use Rattle.format.specs.Names.{dot, slash, backslash, colon, up_to_dot, stem, barred_dll}
 use Rattle.wire.proofs.Bytes.{drop-step, same-longer}
 use Rattle.names.specs.Dll.{Stem, separates, separated}

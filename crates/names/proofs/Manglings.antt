@@ -1,4 +1,5 @@
 -- Laws of ARM64EC names: the ways through mangling and demangling.
+use Rattle.std.specs.Prelude.{if◌then◌else◌}
 use Prim.Native.Nat.{ℕ, ◌+◌}
 use mathlib.Core.Path.{◌≡◌, refl, sym, ap, ◌∙◌}
 use mathlib.Core.Bool.{Bool, true, false, ◌||◌, not}
@@ -7,7 +8,7 @@ use mathlib.Core.List.{[], ◌∷◌}
 use native.Mathlib.Omega.{arith}
 use lib.ListN.{length}
 use borrow.Author.Tests.{eq-eqb, ne_eqb, eqb-true}
-use Rattle.wire.specs.Bytes.{Bytes, if◌then◌else◌, starts, is_some}
+use Rattle.wire.specs.Bytes.{Bytes, starts, is_some}
 use Rattle.format.specs.Names.{hash, question, tag, find, tagged, cut, demangle}
 use Rattle.laws.proofs.Names.{starts-some, same-one, find-within}
 use Rattle.names.specs.Mangler.{mangling_of, demangled_of, Demangles}

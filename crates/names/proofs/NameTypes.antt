@@ -1,4 +1,5 @@
 -- Laws of the name types: what each drops, what it leaves, and how an export's is chosen.
+use Rattle.std.specs.Prelude.{if◌then◌else◌}
 use Prim.Native.Nat.{ℕ, ◌-◌, ◌≤◌}
 use mathlib.Core.Path.{◌≡◌, refl, sym, ap, ◌∙◌}
 use mathlib.Core.Bool.{Bool, ◌&&◌, ◌||◌, not, true, false}
@@ -9,7 +10,7 @@ use lib.Dec.{eqb}
 use Rattle.coff.specs.declared.import.ImportNameType.{ImportNameType}
 use Rattle.coff.specs.declared.import.ImportNameType.TheVariants.{Ordinal, Name, NameNoprefix, NameUndecorate, NameExportas}
 use Rattle.coff.specs.Import.{type_number}
-use Rattle.wire.specs.Bytes.{Bytes, if◌then◌else◌, same, starts, holds, before, part}
+use Rattle.wire.specs.Bytes.{Bytes, same, starts, holds, before, part}
 use Rattle.wire.proofs.Bytes.{part-whole}
 use Rattle.wire.proofs.Parts.{part-last, take-before, length-before}
 use Rattle.format.specs.Machines.{i386}

@@ -1,4 +1,5 @@
 -- Laws of renaming: the ways through `replace`, and what a located renaming says.
+use Rattle.std.specs.Prelude.{if◌then◌else◌}
 use Prim.Native.Nat.{ℕ, ◌+◌, ◌-◌, ◌≤◌}
 use mathlib.Core.Path.{◌≡◌, refl, sym, ap, ◌∙◌}
 use mathlib.Core.Bool.{Bool, true, false, ◌&&◌, true≢false}
@@ -6,7 +7,7 @@ use mathlib.Core.Option.{Option, none, some}
 use mathlib.Core.List.{◌++◌}
 use native.Mathlib.Omega.{arith}
 use lib.ListN.{length, take, drop, length-append, length-take, length-drop}
-use Rattle.wire.specs.Bytes.{Bytes, if◌then◌else◌, starts, or_else}
+use Rattle.wire.specs.Bytes.{Bytes, starts, or_else}
 use Rattle.wire.specs.Writes.{Wrote}
 use Rattle.wire.proofs.Writes.{◌⨾◌, wrote-as}
 use Rattle.format.specs.Names.{underscore, find, splice, replace_once, replace}

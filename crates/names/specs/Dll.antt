@@ -1,6 +1,6 @@
 -- The stem of a DLL name, by its length, and the bytes that bar one.
-use Rattle.std.specs.Prelude.{ℕ, ◌≡◌, Bool, true, false, ◌||◌, [], ◌∷◌, length, take, eqb}
-use Rattle.wire.specs.Bytes.{Bytes, if◌then◌else◌}
+use Rattle.std.specs.Prelude.{ℕ, ◌≡◌, Bool, true, false, ◌||◌, [], ◌∷◌, length, take, eqb, if◌then◌else◌}
+use Rattle.wire.specs.Bytes.{Bytes}
 use Rattle.format.specs.Names.{slash, backslash, colon, stem}
 
 -- the stem is the first r bytes

@@ -1,7 +1,7 @@
 -- What mangling and demangling come to.
-use Rattle.std.specs.Prelude.{ℕ, ◌+◌, ◌≤◌, ◌≡◌, ◌||◌, not, ◌++◌, length, take, drop}
+use Rattle.std.specs.Prelude.{ℕ, ◌+◌, ◌≤◌, ◌≡◌, ◌||◌, not, ◌++◌, length, take, drop, if◌then◌else◌}
 use Rattle.std.proofs.Math.Option.{Option, none, some}
-use Rattle.wire.specs.Bytes.{Bytes, if◌then◌else◌, starts}
+use Rattle.wire.specs.Bytes.{Bytes, starts}
 use Rattle.format.specs.Names.{hash, question, tag, tagged, demangle}
 use Rattle.names.specs.declared.mangler.Mangling.{Mangling}
 use Rattle.names.specs.declared.mangler.Mangling.TheVariants.{Prefix, Mangled}

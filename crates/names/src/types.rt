@@ -1,6 +1,6 @@
 // Name types.
-ghost use Rattle.std.specs.Prelude.{◌≤◌, ◌≡◌, ◌&&◌, not, eqb, length};
-ghost use Rattle.wire.specs.Bytes.{if◌then◌else◌, starts, holds};
+ghost use Rattle.std.specs.Prelude.{◌≤◌, ◌≡◌, ◌&&◌, not, eqb, length, if◌then◌else◌};
+ghost use Rattle.wire.specs.Bytes.{starts, holds};
 ghost use Rattle.format.specs.Machines.{i386};
 ghost use Rattle.format.specs.Names.{underscore, at_sign, prefixed, plain_type};
 ghost use Rattle.coff.specs.Import.{type_number};

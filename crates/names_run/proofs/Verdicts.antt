@@ -1,4 +1,5 @@
 -- What a verdict says, and what a rule says that agrees with it.
+use Rattle.std.specs.Prelude.{if◌then◌else◌}
 use Prim.Native.Nat.{ℕ, ◌+◌, ◌-◌}
 use mathlib.Core.Path.{◌≡◌, sym, ap, ◌∙◌}
 use mathlib.Core.Bool.{Bool, true, false}
@@ -8,7 +9,7 @@ use lib.Dec.{eqb}
 use lib.ListN.{length, take, drop, take-append-drop}
 use native.Mathlib.Omega.{arith}
 use borrow.Author.Tests.{eqb-true}
-use Rattle.wire.specs.Bytes.{Bytes, if◌then◌else◌, same}
+use Rattle.wire.specs.Bytes.{Bytes, same}
 use Rattle.wire.proofs.Bytes.{same-eq}
 use Rattle.search.proofs.Searches.{take-rest}
 use Rattle.format.specs.Names.{demangle, apply}

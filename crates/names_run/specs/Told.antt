@@ -1,7 +1,7 @@
 -- The Rust's verdicts, as the table has them.
-use Rattle.std.specs.Prelude.{ℕ, eqb}
+use Rattle.std.specs.Prelude.{ℕ, eqb, if◌then◌else◌}
 use Rattle.std.proofs.Math.Option.{Option, none, some}
-use Rattle.wire.specs.Bytes.{Bytes, if◌then◌else◌, same}
+use Rattle.wire.specs.Bytes.{Bytes, same}
 use Rattle.format.specs.Names.{apply}
 use Rattle.names.specs.declared.mangler.Mangling.{Mangling}
 use Rattle.names.specs.declared.mangler.Mangling.TheVariants.{Prefix, Mangled, Fails}

@@ -1,4 +1,5 @@
 -- Laws of keys: the last record whose import has a key is the last import that answers, as the definition has it over the exports.
+use Rattle.std.specs.Prelude.{if◌then◌else◌}
 use Prim.Native.Nat.{ℕ, zero, suc, ◌+◌}
 use mathlib.Core.Path.{◌≡◌, refl, sym, ap, ◌∙◌}
 use mathlib.Core.Bool.{Bool, true, false}
@@ -7,7 +8,7 @@ use mathlib.Core.List.{List, [], ◌∷◌}
 use native.Mathlib.Nat.{add-zero}
 use native.Mathlib.Omega.{arith}
 use borrow.Author.Tests.{ne_eqb}
-use Rattle.wire.specs.Bytes.{Bytes, if◌then◌else◌, same, or_else}
+use Rattle.wire.specs.Bytes.{Bytes, same, or_else}
 use Rattle.format.specs.Machines.{arm64ec}
 use Rattle.format.specs.Names.{hash, apply}
 use Rattle.format.specs.Exports.{Export, is_private, export_at, exports_from}

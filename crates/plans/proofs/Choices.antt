@@ -1,4 +1,5 @@
 -- Laws of choices and plans: each answer by the facts that lead to it.
+use Rattle.std.specs.Prelude.{if◌then◌else◌}
 use Prim.Native.Nat.{ℕ}
 use mathlib.Core.Path.{◌≡◌, refl, sym, ap, ap₂, ◌∙◌}
 use mathlib.Core.Bool.{Bool, true, false, ◌||◌, not}
@@ -7,7 +8,7 @@ use mathlib.Core.List.{[], ◌∷◌}
 use native.Mathlib.Omega.{arith}
 use lib.ListN.{length}
 use borrow.Author.Tests.{eq-eqb, ne_eqb}
-use Rattle.wire.specs.Bytes.{Bytes, if◌then◌else◌, same, starts}
+use Rattle.wire.specs.Bytes.{Bytes, same, starts}
 use Rattle.format.specs.Machines.{i386, arm64ec}
 use Rattle.format.specs.Exports.{Export, field_at, absent_at, bytes_at, string_at, export_at, noname}
 use Rattle.format.specs.Names.{hash, question, apply, plain_type, tagged, demangle}

@@ -1,4 +1,5 @@
 -- Laws of a record's public name, and of the rows 11 to 14 by it.
+use Rattle.std.specs.Prelude.{if◌then◌else◌}
 use Prim.Native.Nat.{ℕ, ◌+◌, ◌≤◌, ◌<◌}
 use mathlib.Core.Path.{◌≡◌, refl}
 use mathlib.Core.Bool.{Bool, true, false}
@@ -7,7 +8,7 @@ use mathlib.Core.List.{[], ◌∷◌}
 use native.Mathlib.Omega.{arith}
 use lib.ListN.{length}
 use borrow.Author.Tests.{ne_eqb}
-use Rattle.wire.specs.Bytes.{Bytes, if◌then◌else◌}
+use Rattle.wire.specs.Bytes.{Bytes}
 use Rattle.wire.proofs.Bytes.{length-part}
 use Rattle.format.specs.Machines.{arm64ec}
 use Rattle.format.specs.Exports.{Export, names_at, offset_of, length_of, field_at, absent_at, bytes_at, string_at, is_private, export_at}

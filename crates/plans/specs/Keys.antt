@@ -1,7 +1,7 @@
 -- The last record of a list whose import has a wanted key, by the records' numbers.
-use Rattle.std.specs.Prelude.{ℕ, zero, suc, ◌+◌, Bool, false}
+use Rattle.std.specs.Prelude.{ℕ, zero, suc, ◌+◌, Bool, false, if◌then◌else◌}
 use Rattle.std.proofs.Math.Option.{Option, none, some}
-use Rattle.wire.specs.Bytes.{Bytes, if◌then◌else◌}
+use Rattle.wire.specs.Bytes.{Bytes}
 use Rattle.format.specs.Exports.{is_private, export_at}
 use Rattle.format.specs.Plan.{plan}
 use Rattle.format.specs.Library.{answers_to}

@@ -1,7 +1,7 @@
 -- What a plan says that holds no name: of an export and its public name, the choice and the plan that it stands for.
-use Rattle.std.specs.Prelude.{ℕ, [], ◌∷◌, eqb}
+use Rattle.std.specs.Prelude.{ℕ, [], ◌∷◌, eqb, if◌then◌else◌}
 use Rattle.std.proofs.Math.Option.{get_or}
-use Rattle.wire.specs.Bytes.{Bytes, if◌then◌else◌, same}
+use Rattle.wire.specs.Bytes.{Bytes, same}
 use Rattle.format.specs.Machines.{arm64ec}
 use Rattle.format.specs.Exports.{Export}
 use Rattle.format.specs.Names.{hash, demangle}

@@ -1,4 +1,5 @@
 -- Which names, machines and types are admitted, by the outcomes of the tests.
+use Rattle.std.specs.Prelude.{if◌then◌else◌}
 use Prim.Native.Nat.{ℕ, ◌-◌, ◌≤◌, ◌<◌}
 use mathlib.Core.Path.{◌≡◌, refl, sym, ap, ◌∙◌, subst}
 use mathlib.Core.Bool.{Bool, true, false, ◌&&◌, not}
@@ -6,7 +7,7 @@ use native.Mathlib.Omega.{arith}
 use lib.ListN.{length, drop}
 use lib.Dec.{leb}
 use borrow.Author.Tests.{eq-eqb, ne_eqb, le-leb, lt-leb}
-use Rattle.wire.specs.Bytes.{Bytes, if◌then◌else◌, holds, before, part}
+use Rattle.wire.specs.Bytes.{Bytes, holds, before, part}
 use Rattle.wire.proofs.Bytes.{and-first}
 use Rattle.wire.proofs.Parts.{part-last, before-free, part-before}
 use Rattle.format.specs.Machines.{known, hybrid, arm64x}

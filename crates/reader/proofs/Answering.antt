@@ -1,4 +1,5 @@
 -- What is answered for a member, by whether it is admitted and where looking for its bytes ends.
+use Rattle.std.specs.Prelude.{if◌then◌else◌}
 use Prim.Native.Nat.{ℕ, ◌+◌, ◌*◌, ◌/◌, ◌%◌, ◌≤◌, ◌<◌}
 use mathlib.Core.Path.{◌≡◌, refl, sym, ap, ◌∙◌}
 use mathlib.Core.Bool.{Bool, true, false, ◌&&◌, not}
@@ -8,7 +9,7 @@ use native.Mathlib.Omega.{arith}
 use lib.ListN.{length}
 use lib.Dec.{eqb, leb}
 use borrow.Author.Tests.{eq-eqb, ne_eqb, lt-ltb}
-use Rattle.wire.specs.Bytes.{Bytes, if◌then◌else◌, same}
+use Rattle.wire.specs.Bytes.{Bytes, same}
 use Rattle.wire.specs.Writes.{Found}
 use Rattle.wire.proofs.Bytes.{and-first, and-each, same-refl, same-differ}
 use Rattle.wire.proofs.Writes.{found-as, found-whole, whole-found}

@@ -1,4 +1,5 @@
 -- The member that the code's fields make is the one of the definition.
+use Rattle.std.specs.Prelude.{if◌then◌else◌}
 use Prim.Native.Nat.{ℕ, ◌+◌, ◌-◌, ◌/◌, ◌%◌, ◌≤◌, ◌<◌}
 use mathlib.Core.Path.{◌≡◌, refl, sym, ap, ap₂, ◌∙◌}
 use mathlib.Core.Bool.{Bool, true, false, ◌&&◌, not, true≢false}
@@ -8,7 +9,7 @@ use native.Mathlib.Omega.{arith}
 use lib.ListN.{length, drop, drop_of_length-le}
 use lib.Dec.{eqb, leb, ltb}
 use borrow.Author.Tests.{eq-eqb, ne_eqb}
-use Rattle.wire.specs.Bytes.{Bytes, ascii, if◌then◌else◌, u16_at, u32_at, same, part, join}
+use Rattle.wire.specs.Bytes.{Bytes, ascii, u16_at, u32_at, same, part, join}
 use Rattle.wire.proofs.Bytes.{same-longer}
 use Rattle.wire.proofs.Parts.{part-last}
 use Rattle.format.specs.Machines.{known, arm64x}

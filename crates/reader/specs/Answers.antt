@@ -1,7 +1,7 @@
 -- What the reader answers for a member that the bytes may be, and for a machine.
-use Rattle.std.specs.Prelude.{ℕ, ◌≡◌, Bool, true, false, ◌&&◌, not, eqb, leb}
+use Rattle.std.specs.Prelude.{ℕ, ◌≡◌, Bool, true, false, ◌&&◌, not, eqb, leb, if◌then◌else◌}
 use Rattle.std.proofs.Math.Option.{none, some}
-use Rattle.wire.specs.Bytes.{Bytes, if◌then◌else◌, u16_at, holds}
+use Rattle.wire.specs.Bytes.{Bytes, u16_at, holds}
 use Rattle.format.specs.Machines.{known, arm64x}
 use Rattle.format.specs.Layouts.{Member}
 use Rattle.format.specs.Reader.{max_symbol, between, admits_dll, ordinary, descriptor_guess, null_guess, thunk_guess, weak_guess, right, fields_or_refused}

@@ -1,6 +1,6 @@
 -- The records' bytes, by the scope paper's layouts, and the records in the bytes at a place.
-use Rattle.std.specs.Prelude.{ℕ, ◌+◌, ◌-◌, get_or, ℤ, pos, negsuc, ltb}
-use Rattle.wire.specs.Bytes.{Bytes, if◌then◌else◌, u16_at, u32_at, part}
+use Rattle.std.specs.Prelude.{ℕ, ◌+◌, ◌-◌, get_or, ℤ, pos, negsuc, ltb, if◌then◌else◌}
+use Rattle.wire.specs.Bytes.{Bytes, u16_at, u32_at, part}
 use Rattle.format.specs.Layouts.{file_header, section, reloc, symbol, import_header}
 use Rattle.records.specs.declared.FileHeader.{FileHeader}
 use Rattle.records.specs.declared.Section.{Section}

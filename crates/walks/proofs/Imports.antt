@@ -1,4 +1,5 @@
 -- The short imports and aliases of a record, by what the functions are told.
+use Rattle.std.specs.Prelude.{if◌then◌else◌}
 use Prim.Native.Nat.{ℕ, ◌+◌, ◌-◌, ◌≤◌}
 use mathlib.Core.Path.{◌≡◌, sym, ap, ◌∙◌}
 use mathlib.Core.Bool.{Bool, true, false}
@@ -7,7 +8,7 @@ use mathlib.Core.List.{List, [], ◌∷◌, ◌++◌, append-nil}
 use native.Mathlib.Omega.{arith}
 use lib.ListN.{length, take, drop}
 use borrow.Author.Tests.{eq-eqb, ne_eqb}
-use Rattle.wire.specs.Bytes.{Bytes, if◌then◌else◌, part}
+use Rattle.wire.specs.Bytes.{Bytes, part}
 use Rattle.wire.proofs.Parts.{part-last}
 use Rattle.format.specs.Names.{hash, demangle}
 use Rattle.format.specs.Exports.{Export, field_at, bytes_at, export_at}

@@ -1,4 +1,5 @@
 -- What is written of a record, by what the functions are told; and the records of a list, one after another.
+use Rattle.std.specs.Prelude.{if◌then◌else◌}
 use Prim.Native.Nat.{ℕ, zero, suc, ◌+◌, ◌-◌, ◌≤◌, ◌<◌}
 use mathlib.Core.Path.{◌≡◌, refl, sym, ap, ap₂, ◌∙◌}
 use mathlib.Core.Bool.{Bool, true, false, ◌&&◌, ◌||◌, not}
@@ -10,7 +11,7 @@ use native.Mathlib.Omega.{arith}
 use lib.Dec.{eqb}
 use lib.ListN.{length}
 use borrow.Author.Tests.{eq-eqb, ne_eqb, eqb-false}
-use Rattle.wire.specs.Bytes.{Bytes, if◌then◌else◌, same, starts, holds, join, is_some}
+use Rattle.wire.specs.Bytes.{Bytes, same, starts, holds, join, is_some}
 use Rattle.wire.proofs.Bytes.{and-each, not-true}
 use Rattle.format.specs.Machines.{i386, arm64ec}
 use Rattle.format.specs.Names.{hash, question, underscore, at_sign, plain_type, replace, tagged, demangle}

@@ -1,6 +1,6 @@
 -- The members of one record, and of a run of records.
-use Rattle.std.specs.Prelude.{ℕ, Bool, ◌&&◌, not, List, [], map, eqb, length}
-use Rattle.wire.specs.Bytes.{Bytes, if◌then◌else◌, join, is_some}
+use Rattle.std.specs.Prelude.{ℕ, Bool, ◌&&◌, not, List, [], map, eqb, length, if◌then◌else◌}
+use Rattle.wire.specs.Bytes.{Bytes, join, is_some}
 use Rattle.format.specs.Machines.{arm64ec}
 use Rattle.format.specs.Exports.{Export, is_private, export_at, exports_from}
 use Rattle.format.specs.Plan.{Plan, kind, plan}

@@ -1,7 +1,7 @@
 // The walk over one list: each record's short import, and after all of them what was deferred.
-ghost use Rattle.std.specs.Prelude.{◌≡◌, true, false, [], ◌∷◌, ◌++◌, ◌-◌, ◌≤◌, ◌<◌, length};
+ghost use Rattle.std.specs.Prelude.{◌≡◌, true, false, [], ◌∷◌, ◌++◌, ◌-◌, ◌≤◌, ◌<◌, length, if◌then◌else◌};
 ghost use Rattle.std.proofs.Math.Option.{some, get_or};
-ghost use Rattle.wire.specs.Bytes.{if◌then◌else◌, is_some};
+ghost use Rattle.wire.specs.Bytes.{is_some};
 ghost use Rattle.format.specs.Machines.{arm64ec};
 ghost use Rattle.format.specs.Exports.{both_counts, field_at, absent_at, bytes_at, export_at, exports_from};
 ghost use Rattle.format.specs.Names.{hash, demangle};

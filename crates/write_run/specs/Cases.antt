@@ -1,6 +1,6 @@
 -- Where the list has its cases, and what stands in each. Past the end of the bytes a word is 0 and a string is empty.
-use Rattle.std.specs.Prelude.{ℕ, zero, suc, ◌+◌, ◌%◌, ◌<◌, [], eqb, leb, length, replicate}
-use Rattle.wire.specs.Bytes.{Bytes, if◌then◌else◌, u32_at, part}
+use Rattle.std.specs.Prelude.{ℕ, zero, suc, ◌+◌, ◌%◌, ◌<◌, [], eqb, leb, length, replicate, if◌then◌else◌}
+use Rattle.wire.specs.Bytes.{Bytes, u32_at, part}
 use Rattle.write_run.specs.declared.replay.Asked.{Asked}
 use Rattle.write_run.specs.declared.replay.Kept.{Kept}
 use Rattle.write_run.specs.Kept.{options, Agrees}

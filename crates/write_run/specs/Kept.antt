@@ -1,6 +1,6 @@
 -- What the writer is asked, and the Rust's answers, as the list has them.
-use Rattle.std.specs.Prelude.{◌≡◌, ◌++◌, eqb, length, drop}
-use Rattle.wire.specs.Bytes.{Bytes, if◌then◌else◌}
+use Rattle.std.specs.Prelude.{◌≡◌, ◌++◌, eqb, length, drop, if◌then◌else◌}
+use Rattle.wire.specs.Bytes.{Bytes}
 use Rattle.format.specs.Library.{Options}
 use Rattle.format.specs.Refusals.{table_slots}
 use Rattle.format.specs.Answers.{asked, written, output_after}
