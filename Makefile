@@ -2,7 +2,7 @@
 .PHONY: test lint prove lib shared example doors compare bench link-test
 
 library := target/staticlib/libcrepedum.a
-sources := crates.txt $(shell find crates -name '*.rt' -o -name '*.antt')
+sources := crates.txt $(shell find crates -name out -prune -o '(' -name '*.rt' -o -name '*.antt' ')' -print)
 
 # Everything: linters, proofs, must-fail edits, programs, every way in, and the comparison beside the Rust.
 test:
@@ -18,7 +18,7 @@ example:
 
 # The proofs alone.
 prove:
-	@rt check
+	@rt all check
 
 # target/staticlib/libcrepedum.a, for C and Rust; include/crepedum.h declares it.
 lib: $(library)

@@ -1,4 +1,4 @@
-//! Links the static library that `rt staticlib crepedum` writes.
+//! Links the static library that tools/staticlib builds.
 use std::path::PathBuf;
 
 fn main() {
