@@ -67,21 +67,21 @@ find-short p s i l h =
 
 -- ---- the part that is compared with a pattern, byte by byte
 
-pub get_d_part : (s : Bytes) (at n j : ℕ) → j < n → get_or (part s at n) j 0 ≡ get_or s (at + j) 0
+pub get_or-part : (s : Bytes) (at n j : ℕ) → j < n → get_or (part s at n) j 0 ≡ get_or s (at + j) 0
 unfolding part
-get_d_part s at n j h = get_or-take n (drop at s) j 0 h ∙ get_or-drop at s j 0
+get_or-part s at n j h = get_or-take n (drop at s) j 0 h ∙ get_or-drop at s j 0
 
 module _ (p s : Bytes) (i j : ℕ) (h : j < length p) (k : i + length p ≤ length s) where
   pub agree-later : get_or s (i + j) 0 ≡ get_or p j 0
       → same (drop j (part s i (length p))) (drop j p) ≡ same (drop (j + 1) (part s i (length p))) (drop (j + 1) p)
   agree-later e =
       let l = length-part s i (length p) k in
-      same-later (part s i (length p)) p j (omega arith) h (get_d_part s i (length p) j h ∙ e)
+      same-later (part s i (length p)) p j (omega arith) h (get_or-part s i (length p) j h ∙ e)
 
   pub agree-stop : (get_or s (i + j) 0 ≡ get_or p j 0 → ⊥) → same (drop j (part s i (length p))) (drop j p) ≡ false
   agree-stop e =
       let l = length-part s i (length p) k in
-      same-stop (part s i (length p)) p j (omega arith) h (λ q. e (sym (get_d_part s i (length p) j h) ∙ q))
+      same-stop (part s i (length p)) p j (omega arith) h (λ q. e (sym (get_or-part s i (length p) j h) ∙ q))
 
 pub agree-end : (p s : Bytes) (i j : ℕ) → length p ≤ j → same (drop j (part s i (length p))) (drop j p) ≡ true
 unfolding part
@@ -95,7 +95,7 @@ part-some s i n f h = omega (arith, length-take n (drop i s), length-drop i s)
 
 first-differs : (p s : Bytes) (i : ℕ) → 0 < length p → i < length s → (get_or s i 0 ≡ get_or p 0 0 → ⊥) → same (part s i (length p)) p ≡ false
 first-differs p s i full h e =
-    let here : get_or (part s i (length p)) 0 0 ≡ get_or s i 0 = get_d_part s i (length p) 0 full ∙ ap (λ (k : ℕ). get_or s k 0) (add-zero i) in
+    let here : get_or (part s i (length p)) 0 0 ≡ get_or s i 0 = get_or-part s i (length p) 0 full ∙ ap (λ (k : ℕ). get_or s k 0) (add-zero i) in
     same-stop (part s i (length p)) p 0 (part-some s i (length p) full h) full (λ q. e (sym here ∙ q))
 
 -- places that do not have the pattern's first byte are passed over
