@@ -127,7 +127,7 @@ fn seek(slots: &[Row], b: &[u8], machine: u16, mingw: bool, key: &[u8], h: u32) 
     requires in_bounds { 8192 ≤ length slots.now }
     requires within { Within (both_counts b.now) (slot_at slots.now) }
     requires b_value { check_list b.now ≡ Fine }
-    requires machine_nonzero { machine ≢ arm64ec }
+    requires not_arm64ec { machine ≢ arm64ec }
     requires h_value { h ≡ hash_of key.now }
     ensures { result ≡ sought (key_at machine mingw b.now) (slot_at slots.now) key.now }
 {
@@ -157,7 +157,7 @@ fn insert(slots: &mut [Row], b: &[u8], k: u32, machine: u16, mingw: bool, from: 
     requires in_bounds { 8192 ≤ length slots.old }
     requires entered { Entered (key_at machine mingw b.now) from (k - from) (slot_at slots.old) }
     requires b_value { check_list b.now ≡ Fine }
-    requires machine_nonzero { machine ≢ arm64ec }
+    requires not_arm64ec { machine ≢ arm64ec }
     requires from_le_k { (from ≤ k) × (k < both_counts b.now) × (k < 8192) }
     requires k_value { key_at machine mingw b.now key.now k ≡ true }
     ensures { Entered (key_at machine mingw b.now) from (k + 1 - from) (slot_at slots.new) }
@@ -186,7 +186,7 @@ fn insert_named(
     requires in_bounds { 8192 ≤ length slots.old }
     requires entered { Entered (key_at machine mingw b.now) from (k - from) (slot_at slots.old) }
     requires b_value { check_list b.now ≡ Fine }
-    requires machine_nonzero { machine ≢ arm64ec }
+    requires not_arm64ec { machine ≢ arm64ec }
     requires from_le_k { (from ≤ k) × (k < both_counts b.now) }
     requires held { Held b.now k }
     requires public_value { (w : Bytes) → answers_to w (plan_public machine mingw (export_at b.now k) (some public.now)) ≡ key_at machine mingw b.now w k }
@@ -219,7 +219,7 @@ fn insert_record(slots: &mut [Row], b: &[u8], k: u32, machine: u16, mingw: bool,
     requires in_bounds { 8192 ≤ length slots.old }
     requires entered { Entered (key_at machine mingw b.now) from (k - from) (slot_at slots.old) }
     requires b_value { check_list b.now ≡ Fine }
-    requires machine_nonzero { machine ≢ arm64ec }
+    requires not_arm64ec { machine ≢ arm64ec }
     requires from_le_k { (from ≤ k) × (k < both_counts b.now) }
     requires held { Held b.now k }
     ensures { Entered (key_at machine mingw b.now) from (k + 1 - from) (slot_at slots.new) }
@@ -249,7 +249,7 @@ fn insert_record(slots: &mut [Row], b: &[u8], k: u32, machine: u16, mingw: bool,
 fn insert_all(slots: &mut [Row], b: &[u8], machine: u16, mingw: bool, from: u32, to: u32)
     requires in_bounds { 8192 ≤ length slots.old }
     requires b_value { check_list b.now ≡ Fine }
-    requires machine_nonzero { machine ≢ arm64ec }
+    requires not_arm64ec { machine ≢ arm64ec }
     requires from_le_to { (from ≤ to) × (to ≤ both_counts b.now) }
     ensures { Entered (key_at machine mingw b.now) from (to - from) (slot_at slots.new) }
 {
@@ -274,7 +274,7 @@ fn find(
     requires in_bounds { 8192 ≤ length slots.now }
     requires entered { Entered (key_at machine mingw b.now) from (to - from) (slot_at slots.now) }
     requires b_value { check_list b.now ≡ Fine }
-    requires machine_nonzero { machine ≢ arm64ec }
+    requires not_arm64ec { machine ≢ arm64ec }
     requires from_le_to { (from ≤ to) × (to ≤ both_counts b.now) }
     ensures { result ≡ target_of (last_in (key_at machine mingw b.now wanted.now) from (to - from)) }
 {
@@ -299,7 +299,7 @@ fn find_all(
     requires in_bounds { 8192 ≤ length slots.now }
     requires entered { Entered (key_at machine mingw b.now) from (to - from) (slot_at slots.now) }
     requires b_value { check_list b.now ≡ Fine }
-    requires machine_nonzero { machine ≢ arm64ec }
+    requires not_arm64ec { machine ≢ arm64ec }
     requires from_le_to { (from ≤ to) × (to ≤ both_counts b.now) }
     requires b_in_bounds { both_counts b.now ≤ length targets.old }
     ensures { Resolved machine mingw b.now from (to - from) targets.new × ((j : ℕ) → j < from → slice_index targets.new j ≡ slice_index targets.old j) }

@@ -15,7 +15,7 @@ use names::rename;
 // Whether the import of a record under its public name has the wanted key.
 fn key_named(b: &[u8], k: u32, machine: u16, mingw: bool, public: &[u8], wanted: &[u8]) -> bool
     requires held { Held b.now k }
-    requires fact { machine ≡ arm64ec → ⊥ }
+    requires not_arm64ec { machine ≡ arm64ec → ⊥ }
     ensures { result ≡ answers_to wanted.now (plan_public machine mingw (export_at b.now k) (some public.now)) }
 {
     match plan(b, k, machine, mingw, public) {
@@ -32,7 +32,7 @@ fn key_named(b: &[u8], k: u32, machine: u16, mingw: bool, public: &[u8], wanted:
 // Whether the import of a record has the wanted key; that of a private one has none.
 pub fn key_is(b: &[u8], k: u32, machine: u16, mingw: bool, wanted: &[u8]) -> bool
     requires held { Held b.now k }
-    requires fact { machine ≡ arm64ec → ⊥ }
+    requires not_arm64ec { machine ≡ arm64ec → ⊥ }
     ensures { result ≡ key_at machine mingw b.now wanted.now k }
 {
     if record::is_private(b, k) {

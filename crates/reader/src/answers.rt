@@ -134,7 +134,7 @@ pub fn as_null_thunk(b: &[u8], machine: Machine, stem: &[u8]) -> Read
 // Of a short import without an export string, whose names are the texts at their places.
 pub fn as_short(b: &[u8], machine: u16, ordinal: u16, types: u16, symbol: &[u8], dll: &[u8]) -> Read
     requires types_value { admits_types machine (types % 4) (types / 4) ≡ true }
-    requires fact { types / 4 ≡ 4 → ⊥ }
+    requires not_exportas { types / 4 ≡ 4 → ⊥ }
     requires symbol_value { symbol.now ≡ text_at b.now import_header_size }
     requires dll_value { dll.now ≡ text_at b.now (import_header_size + (length symbol.now + 1)) }
     ensures { result ≡ answer b.now (short machine ordinal (types % 4) (types / 4) symbol.now dll.now []) }

@@ -257,7 +257,7 @@ fn draw_deferred(
     requires room { Room (entry_of pen) (at_of pen) (alias_or_short machine mingw dll.now (export_at b.now k) public.now (bytes_at b.now (field_at k 3)) (last_answering machine mingw (bytes_at b.now (field_at k 3)) (exports_from b.now from (to - from)))) }
     requires held { Held b.now k }
     requires b_value { check_list b.now ≡ Fine }
-    requires fact { machine ≡ arm64ec → ⊥ }
+    requires not_arm64ec { machine ≡ arm64ec → ⊥ }
     requires from_le_k { (from ≤ k) × (k < to) × (to ≤ both_counts b.now) }
     requires dll_len_bound { (length dll.now ≤ 255) × (length public.now ≤ 8189) }
     requires resolved { Resolved machine mingw b.now from (to - from) targets.now }

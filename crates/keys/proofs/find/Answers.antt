@@ -10,7 +10,7 @@ use Rattle.keys.proofs.find.Goals as goal
 pub seek-requires : goal.seek-requires
 seek-requires c =
     let g = c.requires.from_le_to in
-    record { in_bounds = c.requires.in_bounds; within = within-by _ _ c.args.to (both_counts c.args.b.now) _ g.0 g.1 c.requires.entered; b_value = c.requires.b_value; machine_nonzero = c.requires.machine_nonzero; h_value = c.hash-h.ensures }
+    record { in_bounds = c.requires.in_bounds; within = within-by _ _ c.args.to (both_counts c.args.b.now) _ g.0 g.1 c.requires.entered; b_value = c.requires.b_value; not_arm64ec = c.requires.not_arm64ec; h_value = c.hash-h.ensures }
 
 pub overflow_cast-result : goal.overflow_cast-result
 overflow_cast-result c =

@@ -18,7 +18,7 @@ pub string-wanted-requires : goal.string-wanted-requires
 string-wanted-requires c = record { held = held _ _ c.requires.b_value (omega (arith, c.loop-k-test.true, c.requires.from_le_to.1)); f_bound = omega arith }
 
 pub find-requires : goal.find-requires
-find-requires c = record { in_bounds = c.requires.in_bounds; entered = c.requires.entered; b_value = c.requires.b_value; machine_nonzero = c.requires.machine_nonzero; from_le_to = c.requires.from_le_to }
+find-requires c = record { in_bounds = c.requires.in_bounds; entered = c.requires.entered; b_value = c.requires.b_value; not_arm64ec = c.requires.not_arm64ec; from_le_to = c.requires.from_le_to }
 
 pub bounds-targets-k : goal.bounds-targets-k
 bounds-targets-k c =

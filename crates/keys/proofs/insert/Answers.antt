@@ -8,7 +8,7 @@ use Rattle.keys.proofs.insert.Goals as goal
 pub seek-requires : goal.seek-requires
 seek-requires c =
     let g = c.requires.from_le_k in
-    record { in_bounds = c.requires.in_bounds; within = within-by _ _ c.args.k (both_counts c.args.b.now) _ g.0 (omega (arith, g.1)) c.requires.entered; b_value = c.requires.b_value; machine_nonzero = c.requires.machine_nonzero; h_value = c.hash-h.ensures }
+    record { in_bounds = c.requires.in_bounds; within = within-by _ _ c.args.k (both_counts c.args.b.now) _ g.0 (omega (arith, g.1)) c.requires.entered; b_value = c.requires.b_value; not_arm64ec = c.requires.not_arm64ec; h_value = c.hash-h.ensures }
 
 pub put-requires : goal.put-requires
 put-requires c =

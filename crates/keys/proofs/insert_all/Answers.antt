@@ -15,7 +15,7 @@ loop-k-init c =
 pub insert_record-requires : goal.insert_record-requires
 insert_record-requires c =
     let inside : c.loop-k.k < both_counts c.args.b.now = omega (arith, c.loop-k-test.true, c.requires.from_le_to.1) in
-    record { in_bounds = omega (arith, c.loop-k.invariant.2, c.clear.auto.slots, c.requires.in_bounds); entered = c.loop-k.invariant.3; b_value = c.requires.b_value; machine_nonzero = c.requires.machine_nonzero; from_le_k = (c.loop-k.invariant.0, inside); held = held _ _ c.requires.b_value inside }
+    record { in_bounds = omega (arith, c.loop-k.invariant.2, c.clear.auto.slots, c.requires.in_bounds); entered = c.loop-k.invariant.3; b_value = c.requires.b_value; not_arm64ec = c.requires.not_arm64ec; from_le_k = (c.loop-k.invariant.0, inside); held = held _ _ c.requires.b_value inside }
 
 pub loop-k-preserved : goal.loop-k-preserved
 loop-k-preserved c =

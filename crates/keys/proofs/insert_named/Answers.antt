@@ -9,8 +9,8 @@ use Rattle.keys.proofs.insert_named.Goals as goal
 pub insert-requires : goal.insert-requires
 insert-requires c =
     let key = c.part.ensures ∙ c.apply_name_type-s.ensures.bytes in
-    let short = key-short _ _ _ _ _ _ _ _ _ c.requires.machine_nonzero (ap (shaped _ _) (sym c.in-Short.is) ∙ c.plan.ensures) (applied-same _ _ key) in
-    record { in_bounds = c.requires.in_bounds; entered = c.requires.entered; b_value = c.requires.b_value; machine_nonzero = c.requires.machine_nonzero; from_le_k = (c.requires.from_le_k.0, c.requires.from_le_k.1, c.requires.held.counted); k_value = sym (c.requires.public_value _) ∙ sym short }
+    let short = key-short _ _ _ _ _ _ _ _ _ c.requires.not_arm64ec (ap (shaped _ _) (sym c.in-Short.is) ∙ c.plan.ensures) (applied-same _ _ key) in
+    record { in_bounds = c.requires.in_bounds; entered = c.requires.entered; b_value = c.requires.b_value; not_arm64ec = c.requires.not_arm64ec; from_le_k = (c.requires.from_le_k.0, c.requires.from_le_k.1, c.requires.held.counted); k_value = sym (c.requires.public_value _) ∙ sym short }
 
 pub returns-in-Deferred : goal.returns-in-Deferred
 returns-in-Deferred c =

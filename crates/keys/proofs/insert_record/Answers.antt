@@ -13,7 +13,7 @@ returns-then-is_private c =
 pub insert_named-requires : goal.insert_named-requires
 insert_named-requires c =
     let public = public-base _ _ (sym c.absent.ensures ∙ c.if-absent.true) ∙ ap some (sym c.base.ensures) in
-    record { in_bounds = c.requires.in_bounds; entered = c.requires.entered; b_value = c.requires.b_value; machine_nonzero = c.requires.machine_nonzero; from_le_k = c.requires.from_le_k; held = c.requires.held; public_value = λ w. key-by _ _ _ w _ _ (sym c.is_private.ensures ∙ c.if-is_private.false) public }
+    record { in_bounds = c.requires.in_bounds; entered = c.requires.entered; b_value = c.requires.b_value; not_arm64ec = c.requires.not_arm64ec; from_le_k = c.requires.from_le_k; held = c.requires.held; public_value = λ w. key-by _ _ _ w _ _ (sym c.is_private.ensures ∙ c.if-is_private.false) public }
 
 pub replace-r-requires : goal.replace-r-requires
 replace-r-requires c =
@@ -31,4 +31,4 @@ returns-then-not-found c =
 pub insert_named-requires-2 : goal.insert_named-requires-2
 insert_named-requires-2 c =
     let given = public-renamed _ _ _ _ _ _ (sym c.absent.ensures ∙ c.if-absent.false) c.base-2.ensures c.string.ensures c.string-2.ensures (c.replace-r.ensures.given (c.if-not-found.false)) in
-    record { in_bounds = c.requires.in_bounds; entered = c.requires.entered; b_value = c.requires.b_value; machine_nonzero = c.requires.machine_nonzero; from_le_k = c.requires.from_le_k; held = c.requires.held; public_value = λ w. key-by _ _ _ w _ _ (sym c.is_private.ensures ∙ c.if-is_private.false) given }
+    record { in_bounds = c.requires.in_bounds; entered = c.requires.entered; b_value = c.requires.b_value; not_arm64ec = c.requires.not_arm64ec; from_le_k = c.requires.from_le_k; held = c.requires.held; public_value = λ w. key-by _ _ _ w _ _ (sym c.is_private.ensures ∙ c.if-is_private.false) given }

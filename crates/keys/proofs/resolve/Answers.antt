@@ -11,7 +11,7 @@ returns-then-not-has_wanted c =
     (λ m. resolved-none _ _ _ _ _ _ _ _ (sym c.has_wanted.ensures ∙ c.if-not-has_wanted.true) (omega arith) (omega arith), λ j g. refl)
 
 pub find_all-requires : goal.find_all-requires
-find_all-requires c = record { in_bounds = omega (arith, c.insert_all.auto.slots, c.requires.in_bounds); entered = c.insert_all.ensures; b_value = c.requires.b_value; machine_nonzero = c.if-machine-eq-IMAGE_FILE_MACHINE_ARM64EC.false; from_le_to = c.requires.from_le_to; b_in_bounds = c.requires.b_in_bounds }
+find_all-requires c = record { in_bounds = omega (arith, c.insert_all.auto.slots, c.requires.in_bounds); entered = c.insert_all.ensures; b_value = c.requires.b_value; not_arm64ec = c.if-machine-eq-IMAGE_FILE_MACHINE_ARM64EC.false; from_le_to = c.requires.from_le_to; b_in_bounds = c.requires.b_in_bounds }
 
 pub returns : goal.returns
 returns c =

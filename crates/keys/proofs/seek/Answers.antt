@@ -21,7 +21,7 @@ loop-d-preserved-then-stored-h c =
 pub key_is-same-requires : goal.key_is-same-requires
 key_is-same-requires c =
     let old = spot-old _ _ _ c.loop-d.d c.requires.h_value c.probe-at.ensures.0 c.get-s.ensures c.loop-d.invariant.1 c.loop-d-test.true c.if-s-eq-FREE.false _ c.requires.within in
-    record { held = held _ _ c.requires.b_value old; fact = c.requires.machine_nonzero }
+    record { held = held _ _ c.requires.b_value old; not_arm64ec = c.requires.not_arm64ec }
 
 pub returns-then-same : goal.returns-then-same
 returns-then-same c =

@@ -27,7 +27,7 @@ returns-then-name_type-eq-EXPORT_AS c =
     (short-as-guessed _ c.read-h.ensures c.text-symbol.ensures c.text-dll.ensures c.text.ensures c.if-name_type-eq-EXPORT_AS.true)
 
 pub as_short-requires : goal.as_short-requires
-as_short-requires c = record { types_value = sym c.admits_types.ensures ∙ c.if-not-admits_types.false; fact = c.if-name_type-eq-EXPORT_AS.false; symbol_value = c.text-symbol.ensures; dll_value = c.text-dll.ensures }
+as_short-requires c = record { types_value = sym c.admits_types.ensures ∙ c.if-not-admits_types.false; not_exportas = c.if-name_type-eq-EXPORT_AS.false; symbol_value = c.text-symbol.ensures; dll_value = c.text-dll.ensures }
 
 pub returns : goal.returns
 returns c =

@@ -6,7 +6,7 @@ use Rattle.plans.proofs.keys.key_named.Goals as goal
 
 pub returns-in-Short : goal.returns-in-Short
 returns-in-Short c =
-    key-short _ _ _ _ _ _ _ _ _ c.requires.fact (ap (shaped _ _) (sym c.in-Short.is) ∙ c.plan.ensures) c.gives.ensures
+    key-short _ _ _ _ _ _ _ _ _ c.requires.not_arm64ec (ap (shaped _ _) (sym c.in-Short.is) ∙ c.plan.ensures) c.gives.ensures
 
 pub returns-in-Deferred : goal.returns-in-Deferred
 returns-in-Deferred c =

@@ -29,14 +29,14 @@ pub returns-then-find_short-b : goal.returns-then-find_short-b
 returns-then-find_short-b c =
     let o : c.args.ordinal < 65536 = search rules in let n = sym c.admits_names.ensures ∙
     c.if-not-admits_names.false in lost _ _
-    (short-unexported c.args.machine c.args.ordinal (c.args.types % 4) (c.args.types / 4) c.args.symbol.now c.args.dll.now c.requires.types_value o n c.requires.fact)
-    (short-found c.args.machine c.args.ordinal c.args.types c.args.symbol.now c.args.dll.now c.requires.fact c.find_short.ensures)
+    (short-unexported c.args.machine c.args.ordinal (c.args.types % 4) (c.args.types / 4) c.args.symbol.now c.args.dll.now c.requires.types_value o n c.requires.not_exportas)
+    (short-found c.args.machine c.args.ordinal c.args.types c.args.symbol.now c.args.dll.now c.requires.not_exportas c.find_short.ensures)
     (λ e. omega (arith, c.if-find_short-b.true))
 
 pub returns : goal.returns
 returns c =
     let o : c.args.ordinal < 65536 = search rules in
     let n = sym c.admits_names.ensures ∙ c.if-not-admits_names.false in
-    found _ _ (short-unexported c.args.machine c.args.ordinal (c.args.types % 4) (c.args.types / 4) c.args.symbol.now c.args.dll.now c.requires.types_value o n c.requires.fact)
-    (short-found c.args.machine c.args.ordinal c.args.types c.args.symbol.now c.args.dll.now c.requires.fact c.find_short.ensures) c.if-find_short-b.false
-    (short-fields c.args.machine c.args.ordinal (c.args.types % 4) (c.args.types / 4) c.args.symbol.now c.args.dll.now [] c.requires.fact)
+    found _ _ (short-unexported c.args.machine c.args.ordinal (c.args.types % 4) (c.args.types / 4) c.args.symbol.now c.args.dll.now c.requires.types_value o n c.requires.not_exportas)
+    (short-found c.args.machine c.args.ordinal c.args.types c.args.symbol.now c.args.dll.now c.requires.not_exportas c.find_short.ensures) c.if-find_short-b.false
+    (short-fields c.args.machine c.args.ordinal (c.args.types % 4) (c.args.types / 4) c.args.symbol.now c.args.dll.now [] c.requires.not_exportas)

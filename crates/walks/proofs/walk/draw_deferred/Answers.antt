@@ -62,7 +62,7 @@ overflow_cast-other-2 c =
 
 pub draw_alias_to-requires : goal.draw_alias_to-requires
 draw_alias_to-requires c =
-    let native = c.requires.fact in
+    let native = c.requires.not_arm64ec in
     let range = c.requires.from_le_k in
     let resolved = c.requires.resolved in
     let absent = c.requires.k_value in
@@ -77,5 +77,5 @@ returns c =
     let resolved = c.requires.resolved in
     let absent = c.requires.k_value in
     drew-as
-    (deferred-some _ _ _ c.args.dll.now c.args.public.now _ _ _ (target resolved c.requires.from_le_k absent) c.if-other.false c.requires.fact)
+    (deferred-some _ _ _ c.args.dll.now c.args.public.now _ _ _ (target resolved c.requires.from_le_k absent) c.if-other.false c.requires.not_arm64ec)
     c.draw_alias_to.ensures

@@ -34,7 +34,7 @@ pub draw_deferred-requires : goal.draw_deferred-requires
 draw_deferred-requires c =
     let planned = ap (shaped _ _) (sym c.in-Deferred.is) ∙ c.plan.ensures in
     let native = deferred-native _ _ _ _ planned in
-    record { room = room-as (sym (deferred-later _ _ c.args.later _ _ _ _ _ _ c.plan.ensures c.in-Deferred.is (c.if-not-later.false))) c.requires.room; held = c.requires.held; b_value = c.requires.b_value; fact = native; from_le_k = c.requires.from_le_k; dll_len_bound = c.requires.dll_len_bound; resolved = c.requires.resolved native; k_value = deferred-wanted _ _ _ _ _ planned }
+    record { room = room-as (sym (deferred-later _ _ c.args.later _ _ _ _ _ _ c.plan.ensures c.in-Deferred.is (c.if-not-later.false))) c.requires.room; held = c.requires.held; b_value = c.requires.b_value; not_arm64ec = native; from_le_k = c.requires.from_le_k; dll_len_bound = c.requires.dll_len_bound; resolved = c.requires.resolved native; k_value = deferred-wanted _ _ _ _ _ planned }
 
 pub returns-else-later-2 : goal.returns-else-later-2
 returns-else-later-2 c =
