@@ -8,7 +8,7 @@ sources := crates.txt $(shell find crates -name out -prune -o '(' -name '*.rt' -
 test:
 	@tools/test
 
-# How every file is laid out, and what linters find in the Rust and in the shell scripts.
+# How the Rust is laid out, and what linters find in it and in the shell scripts.
 lint:
 	@tools/lint
 
