@@ -1,15 +1,19 @@
 // The two enums of a short import's type field.
 ghost use Rattle.std.specs.Prelude.{◌≡◌};
-ghost use Rattle.coff.specs.Import.{kind_number, type_number};
+ghost use Rattle.coff.specs.Import.{kind_number, type_number, KindOf, TypeOf};
 
-#[derive(Clone, Copy)]
+// A number that no import kind, or no name type, has.
+#[derive(Clone, Copy, Debug, PartialEq, Eq)]
+pub struct UnknownNumber(pub u16);
+
+#[derive(Clone, Copy, Debug, PartialEq, Eq)]
 pub enum ImportType {
     // An executable code symbol.
-    Code,
+    Code = 0,
     // A data symbol.
-    Data,
+    Data = 1,
     // A constant value.
-    Const,
+    Const = 2,
 }
 
 impl ImportType {
@@ -17,26 +21,38 @@ impl ImportType {
     pub fn number(self) -> u16
         ensures { result ≡ kind_number self }
     {
-        match self {
-            ImportType::Code => 0,
-            ImportType::Data => 1,
-            ImportType::Const => 2,
+        self as u16
+    }
+}
+
+impl TryFrom<u16> for ImportType {
+    type Error = UnknownNumber;
+
+    ghost try_from_gives = { KindOf };
+
+    // The import kind of a number.
+    fn try_from(number: u16) -> Result<Self, UnknownNumber> {
+        match number {
+            0 => Ok(ImportType::Code),
+            1 => Ok(ImportType::Data),
+            2 => Ok(ImportType::Const),
+            _ => Err(UnknownNumber(number)),
         }
     }
 }
 
-#[derive(Clone, Copy)]
+#[derive(Clone, Copy, Debug, PartialEq, Eq)]
 pub enum ImportNameType {
     // Import is by ordinal.
-    Ordinal,
+    Ordinal = 0,
     // The import name is identical to the public symbol name.
-    Name,
+    Name = 1,
     // The import name is the public symbol name, but skipping the leading ?, @, or optionally _.
-    NameNoprefix,
+    NameNoprefix = 2,
     // The same, and truncating at the first @.
-    NameUndecorate,
+    NameUndecorate = 3,
     // The import name is specified as a separate string in the import library object file.
-    NameExportas,
+    NameExportas = 4,
 }
 
 impl ImportNameType {
@@ -44,12 +60,24 @@ impl ImportNameType {
     pub fn number(self) -> u16
         ensures { result ≡ type_number self }
     {
-        match self {
-            ImportNameType::Ordinal => 0,
-            ImportNameType::Name => 1,
-            ImportNameType::NameNoprefix => 2,
-            ImportNameType::NameUndecorate => 3,
-            ImportNameType::NameExportas => 4,
+        self as u16
+    }
+}
+
+impl TryFrom<u16> for ImportNameType {
+    type Error = UnknownNumber;
+
+    ghost try_from_gives = { TypeOf };
+
+    // The name type of a number.
+    fn try_from(number: u16) -> Result<Self, UnknownNumber> {
+        match number {
+            0 => Ok(ImportNameType::Ordinal),
+            1 => Ok(ImportNameType::Name),
+            2 => Ok(ImportNameType::NameNoprefix),
+            3 => Ok(ImportNameType::NameUndecorate),
+            4 => Ok(ImportNameType::NameExportas),
+            _ => Err(UnknownNumber(number)),
         }
     }
 }

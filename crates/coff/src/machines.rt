@@ -11,7 +11,7 @@ use crate::constants::{
 };
 
 // A machine, with the type of its relocations to an address without the image's base.
-#[derive(Clone, Copy)]
+#[derive(Clone, Copy, Debug, PartialEq, Eq)]
 pub struct Machine {
     pub number: u16,
     pub relocation: u16,
@@ -19,13 +19,7 @@ pub struct Machine {
     pub wide: bool,
 }
 
-// What a search by number says.
-#[derive(Clone, Copy)]
-pub enum Found {
-    Known(Machine),
-    Unknown,
-}
-
+// The scope paper binds this form: one constant table, searched by number.
 const MACHINES: [Machine; 6] = [
     Machine {
         number: IMAGE_FILE_MACHINE_I386,
@@ -65,21 +59,19 @@ const ARM64: usize = 3;
 const ARM64EC: usize = 4;
 
 // The machine of a number. The number is not cut to 16 bits.
-pub fn find_machine(number: u32) -> Found
+pub fn find_machine(number: u32) -> Option<Machine>
     ensures { result ≡ machine_of number }
 {
-    let mut i: usize = 0;
-    while i < MACHINES.len() {
-        let m = MACHINES[i];
-        if (m.number as u32) == number {
-            return Found::Known(m);
+    for m in MACHINES {
+        if u32::from(m.number) == number {
+            return Some(m);
         }
-        i += 1;
     }
-    Found::Unknown
+    None
 }
 
 // Whether a machine is ARM64EC or ARM64X, which have one machine for each list.
+#[tactic(auto, unfolding(format::specs::Machines::hybrid))]
 pub fn is_arm64ec(machine: u16) -> bool
     ensures { result ≡ hybrid machine }
 {

@@ -1,86 +1,73 @@
 -- Fields that a caller lends: values put into the first of them, and what an answer's values are.
-use Rattle.std.specs.Prelude.{if◌then◌else◌}
-use Prim.Native.Nat.{ℕ, ◌+◌, ◌*◌, ◌≤◌, ◌<◌}
-use mathlib.Core.Path.{◌≡◌, refl, sym, ap, ◌∙◌, subst}
+use Rattle.std.specs.Prelude.{if◌then◌else◌, Result, Ok, Err}
+use Prim.Native.Nat.{ℕ, ◌+◌, ◌≤◌, ◌<◌}
+use mathlib.Core.Path.{◌≡◌, refl, subst}
 use mathlib.Core.Bool.{Bool, true, false, not}
 use mathlib.Core.Option.{Option, none, some}
 use mathlib.Core.List.{List, [], ◌∷◌, ◌++◌}
-use native.Mathlib.Nat.{zero-add}
-use native.Mathlib.Numerals.{add-one}
 use native.Mathlib.Omega.{arith}
-use lib.ListN.{length, get_or, set, take, drop}
-use lib.Seq.{take-suc, take_all}
+use lib.ListN.{length, drop}
 use lib.Dec.{eqb, leb, ltb}
 use borrow.Author.Tests.{lt-ltb, le-ltb}
 use Rattle.wire.specs.Bytes.{Bytes}
-use Rattle.wire.specs.Writes.{Wrote}
 use Rattle.wire.proofs.Bytes.{and-first, and-each}
-use Rattle.wire.proofs.Writes.{◌⨾◌, wrote-as, wrote-one, wrote-length, wrote-exact}
 use Rattle.format.specs.Machines.{known, wide, arm64x}
 use Rattle.format.specs.Layouts as L
 use Rattle.format.specs.Layouts.{Member, descriptor, null_descriptor, null_thunk, weak, import_header_size, descriptor_name, null_name, slot_size}
 use Rattle.format.specs.Reader.{between, admits_dll, admits_stem, admits_export, ordinary, admits, read, span, absent, stem_span, fields, fields_or_refused, read_fields}
-use Rattle.format.specs.Answers.{read_number, layout_number, read_values, bit, ends}
+use Rattle.format.specs.Answers.{layout_number, read_values, bit, ends}
+use Rattle.format.specs.declared.Reason.TheVariants.{NoRoom}
+use Rattle.format.specs.declared.Refusal.{Refusal}
+use Rattle.crepedum.specs.Words.{reason_word}
 use Rattle.format.specs.declared.Span.{Span}
 use Rattle.format.specs.declared.Read.{Read}
-use Rattle.format.specs.declared.Read.TheVariants.{Descriptor, NullDescriptor, NullThunk, ShortImport, WeakExternal, Refused}
+use Rattle.format.specs.declared.Read.TheVariants.{Descriptor, NullDescriptor, NullThunk, ShortImport, WeakExternal}
 use Rattle.laws.proofs.ReadBack.{between-true, export-true, read-sound}
 use Rattle.laws.proofs.Totals.{stem-short}
 use Rattle.crepedum.specs.Reading.{field_count, read_word, filled, read_answer, fields_after, Short, Shorts}
-
--- ---- values put into the first fields, one by one
-
-pub first-more : {l l' : List ℕ} (b : List ℕ) (i v : ℕ) → i < length b → i < length l → get_or b i 0 ≡ v
-    → Wrote l 0 (take i b) l' i → Wrote l 0 (take (i + 1) b) (set l' i v) (i + 1)
-first-more {l} {l'} b i v h k e w =
-    wrote-as (ap (λ (x : ℕ). take i b ++ x ∷ []) (sym e) ∙ sym (take-suc b i 0 h) ∙ ap (λ (n : ℕ). take n b) (sym (add-one i)))
-    (w ⨾ wrote-one l' i v (omega (arith, wrote-length w)) refl)
-
-pub first-all : {l l' : List ℕ} {r : ℕ} (b : List ℕ) (i : ℕ) → length b ≤ i → length b ≤ length l → Wrote l 0 (take i b) l' r → l' ≡ b ++ drop (length b) l
-first-all {l} b i h k w =
-    wrote-exact (wrote-as (take_all i b h) w) (omega arith) ∙ ap (λ (n : ℕ). b ++ drop n l) (zero-add (length b))
 
 -- ---- the values of each answer
 
 module _ (r : Read) (l l' : List ℕ) where
   pub filled-descriptor : {m : ℕ} {c : Bool} {dll s : Span} → r ≡ Descriptor m c dll s
-      → l' ≡ (m ∷ 0 ∷ 0 ∷ 0 ∷ bit c ∷ (ends dll ++ ends s ++ ends absent)) ++ drop field_count l → (1 ≡ read_word r) × (l' ≡ filled r l)
-  unfolding read_word filled read_number layout_number read_values
+      → l' ≡ (m ∷ 0 ∷ 0 ∷ 0 ∷ bit c ∷ (ends dll ++ ends s ++ ends absent)) ++ drop field_count l → (1 ≡ layout_number r) × (l' ≡ read_values r ++ drop (length (read_values r)) l)
+  unfolding layout_number read_values
   filled-descriptor e f = rw e (refl, f)
 
   pub filled-null : {m : ℕ} {c : Bool} {s : Span} → r ≡ NullDescriptor m c s
-      → l' ≡ (m ∷ 0 ∷ 0 ∷ 0 ∷ bit c ∷ (ends s ++ ends absent ++ ends absent)) ++ drop field_count l → (2 ≡ read_word r) × (l' ≡ filled r l)
-  unfolding read_word filled read_number layout_number read_values
+      → l' ≡ (m ∷ 0 ∷ 0 ∷ 0 ∷ bit c ∷ (ends s ++ ends absent ++ ends absent)) ++ drop field_count l → (2 ≡ layout_number r) × (l' ≡ read_values r ++ drop (length (read_values r)) l)
+  unfolding layout_number read_values
   filled-null e f = rw e (refl, f)
 
   pub filled-thunk : {m : ℕ} {s : Span} → r ≡ NullThunk m s
-      → l' ≡ (m ∷ 0 ∷ 0 ∷ 0 ∷ 0 ∷ (ends s ++ ends absent ++ ends absent)) ++ drop field_count l → (3 ≡ read_word r) × (l' ≡ filled r l)
-  unfolding read_word filled read_number layout_number read_values
+      → l' ≡ (m ∷ 0 ∷ 0 ∷ 0 ∷ 0 ∷ (ends s ++ ends absent ++ ends absent)) ++ drop field_count l → (3 ≡ layout_number r) × (l' ≡ read_values r ++ drop (length (read_values r)) l)
+  unfolding layout_number read_values
   filled-thunk e f = rw e (refl, f)
 
   pub filled-short : {m o t k : ℕ} {s dll x : Span} → r ≡ ShortImport m o t k s dll x
-      → l' ≡ (m ∷ o ∷ t ∷ k ∷ 0 ∷ (ends s ++ ends dll ++ ends x)) ++ drop field_count l → (4 ≡ read_word r) × (l' ≡ filled r l)
-  unfolding read_word filled read_number layout_number read_values
+      → l' ≡ (m ∷ o ∷ t ∷ k ∷ 0 ∷ (ends s ++ ends dll ++ ends x)) ++ drop field_count l → (4 ≡ layout_number r) × (l' ≡ read_values r ++ drop (length (read_values r)) l)
+  unfolding layout_number read_values
   filled-short e f = rw e (refl, f)
 
   pub filled-weak : {m : ℕ} {target alias : Span} → r ≡ WeakExternal m target alias
-      → l' ≡ (m ∷ 0 ∷ 0 ∷ 0 ∷ 0 ∷ (ends target ++ ends alias ++ ends absent)) ++ drop field_count l → (5 ≡ read_word r) × (l' ≡ filled r l)
-  unfolding read_word filled read_number layout_number read_values
+      → l' ≡ (m ∷ 0 ∷ 0 ∷ 0 ∷ 0 ∷ (ends target ++ ends alias ++ ends absent)) ++ drop field_count l → (5 ≡ layout_number r) × (l' ≡ read_values r ++ drop (length (read_values r)) l)
+  unfolding layout_number read_values
   filled-weak e f = rw e (refl, f)
 
-pub filled-refused : {number place : ℕ} (r : Read) (l : List ℕ) → r ≡ Refused number place → (number * 4294967296 ≡ read_word r) × (l ≡ filled r l)
-unfolding read_word filled read_number layout_number read_values
-filled-refused {number} r l e = rw e (omega arith, refl)
-
 -- too few fields, and enough
-pub few : (r : Read) (l : List ℕ) → length l < field_count → (15 * 4294967296 ≡ read_answer r l) × (l ≡ fields_after r l)
+pub few : (r : Result Read Refusal) (l : List ℕ) → length l < field_count → (reason_word NoRoom ≡ read_answer r l) × (l ≡ fields_after r l)
 unfolding read_answer fields_after
 few r l h = rw (lt-ltb (length l) field_count h) (refl, refl)
 
-pub enough : {w : ℕ} {l' : List ℕ} (q r : Read) (l : List ℕ) → q ≡ r → field_count ≤ length l → (w ≡ read_word q) × (l' ≡ filled q l)
-    → (w ≡ read_answer r l) × (l' ≡ fields_after r l)
-unfolding read_answer fields_after
-enough q r l e h (f, g) = rw (le-ltb (length l) field_count h, ← e) (f, g)
+module _ (r : Result Read Refusal) (l : List ℕ) (h : field_count ≤ length l) where
+  pub read-enough : {w : ℕ} {l' : List ℕ} {f : Read} → r ≡ Ok f → (w ≡ layout_number f) × (l' ≡ read_values f ++ drop (length (read_values f)) l)
+      → (w ≡ read_answer r l) × (l' ≡ fields_after r l)
+  unfolding read_answer fields_after read_word filled
+  read-enough e (f, g) = rw (le-ltb (length l) field_count h, e) (f, g)
+
+  pub read-refused : {w : ℕ} {q : Refusal} → r ≡ Err q → w ≡ reason_word q.reason → (w ≡ read_answer r l) × (l ≡ fields_after r l)
+  unfolding read_answer fields_after read_word filled
+  read-refused e f = rw (le-ltb (length l) field_count h, e) (f, refl)
 
 -- ---- every value is a field of 32 bits
 
@@ -135,10 +122,10 @@ shorts-fields (weak m target alias) e =
     let h = (between-true 1 8195 target first).1 in
     (short _ _ (omega arith) (omega arith), short _ _ (omega arith) (omega (arith, (between-true 1 8195 alias second).1)))
 
-pub shorts : (b : Bytes) → Shorts (read_fields b)
+pub shorts : {f : Read} (b : Bytes) → read_fields b ≡ Ok f → Shorts f
 unfolding read_fields fields_or_refused
-shorts b = pick (read b) refl
+shorts {f} b q = pick (read b) refl q
   where
-    pick : (o : Option Member) → read b ≡ o → Shorts (fields_or_refused o)
-    pick none e = tt
-    pick (some m) e = shorts-fields m (read-sound b m e).admitted
+    pick : (o : Option Member) → read b ≡ o → fields_or_refused o ≡ Ok f → Shorts f
+    pick none e q = let z : ◌≡◌ {A = ℕ} 0 1 = cc in absurd (omega arith)
+    pick (some m) e q = let is : fields m ≡ f = cc in subst Shorts is (shorts-fields m (read-sound b m e).admitted)

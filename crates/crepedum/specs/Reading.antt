@@ -1,27 +1,32 @@
 -- What a program in another language is answered for a member, and what its fields then hold.
-use Rattle.std.specs.Prelude.{ℕ, ◌+◌, ◌*◌, ◌<◌, List, ◌++◌, length, drop, ltb, if◌then◌else◌}
-use Rattle.format.specs.Answers.{read_number, layout_number, read_values}
+use Rattle.std.specs.Prelude.{ℕ, ◌<◌, List, ◌++◌, length, drop, ltb, if◌then◌else◌, Result, Ok, Err}
+use Rattle.crepedum.specs.Words.{reason_word}
+use Rattle.format.specs.declared.Reason.TheVariants.{NoRoom}
+use Rattle.format.specs.Answers.{layout_number, read_values}
+use Rattle.format.specs.declared.Refusal.{Refusal}
 use Rattle.format.specs.declared.Span.{Span}
 use Rattle.format.specs.declared.Read.{Read}
-use Rattle.format.specs.declared.Read.TheVariants.{Descriptor, NullDescriptor, NullThunk, ShortImport, WeakExternal, Refused}
+use Rattle.format.specs.declared.Read.TheVariants.{Descriptor, NullDescriptor, NullThunk, ShortImport, WeakExternal}
 
 -- how many fields an answer has
 abbrev pub field_count : ℕ
 field_count = 11
 
 -- the layout's number, or the refusal's number times 2^32, of which the place is 0
-unfoldable pub read_word : Read → ℕ
-read_word r = read_number r * 4294967296 + layout_number r
+unfoldable pub read_word : Result Read Refusal → ℕ
+read_word (Ok f) = layout_number f
+read_word (Err r) = reason_word r.reason
 
 -- the values, and what stood after them; a refusal has none
-unfoldable pub filled : Read → List ℕ → List ℕ
-filled r l = read_values r ++ drop (length (read_values r)) l
+unfoldable pub filled : Result Read Refusal → List ℕ → List ℕ
+filled (Ok f) l = read_values f ++ drop (length (read_values f)) l
+filled (Err r) l = l
 
 -- too few fields are refused first, by 15
-unfoldable pub read_answer : Read → List ℕ → ℕ
-read_answer r l = if ltb (length l) field_count then 15 * 4294967296 else read_word r
+unfoldable pub read_answer : Result Read Refusal → List ℕ → ℕ
+read_answer r l = if ltb (length l) field_count then reason_word NoRoom else read_word r
 
-unfoldable pub fields_after : Read → List ℕ → List ℕ
+unfoldable pub fields_after : Result Read Refusal → List ℕ → List ℕ
 fields_after r l = if ltb (length l) field_count then l else filled r l
 
 -- ---- every value is a field of 32 bits
@@ -36,4 +41,3 @@ Shorts (NullDescriptor m c s) = Short s
 Shorts (NullThunk m s) = Short s
 Shorts (ShortImport m o t k s dll x) = Short s × Short dll × Short x
 Shorts (WeakExternal m target alias) = Short target × Short alias
-Shorts (Refused number place) = Unit {0}

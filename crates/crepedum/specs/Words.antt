@@ -1,22 +1,29 @@
 -- The answers as numbers that cross to other languages.
-use Rattle.std.specs.Prelude.{ℕ, ◌+◌, ◌*◌, ◌≡◌, List}
+use Rattle.std.specs.Prelude.{ℕ, ◌+◌, ◌*◌, ◌≡◌, List, Ok, Err}
 use Rattle.wire.specs.Bytes.{Bytes}
 use Rattle.format.specs.Library.{Options}
-use Rattle.format.specs.Answers.{Writes}
-use Rattle.format.specs.declared.Checked.{Checked}
-use Rattle.format.specs.declared.Checked.TheVariants.{Fine, Refused}
-use Rattle.format.specs.declared.Written.{Written}
-use Rattle.format.specs.declared.Written.TheVariants as W
+use Rattle.format.specs.Numbers.{number_of}
+use Rattle.format.specs.Refusals.{Checked}
+use Rattle.format.specs.Answers.{Written, Writes}
+use Rattle.format.specs.declared.Reason.{Reason}
+use Rattle.format.specs.declared.Refusal.{Refusal}
 
--- 0, or the refusal's number times 2^32, plus its place
+-- a refusal's number times 2^32, without its place and with it
+abbrev pub reason_word : Reason → ℕ
+reason_word r = number_of r * 4294967296
+
+abbrev pub refusal_word : Refusal → ℕ
+refusal_word r = reason_word r.reason + r.place
+
+-- 0, or the refusal's
 abbrev pub check_word : Checked → ℕ
-check_word Fine = 0
-check_word (Refused number place) = number * 4294967296 + place
+check_word (Ok t) = 0
+check_word (Err r) = refusal_word r
 
--- the total, or the refusal's number times 2^32, plus its place
+-- the total, or the refusal's
 abbrev pub written_word : Written → ℕ
-written_word (W.Total n) = n
-written_word (W.Refused number place) = number * 4294967296 + place
+written_word (Ok n) = n
+written_word (Err r) = refusal_word r
 
 -- what writing promises, with its answer as one number
 pub record WritesWord {A : Type 0} (o : Options) (b : Bytes) (slots : List A) (out : Bytes) (w : ℕ) (slots' : List A) (out' : Bytes) : Type 0 where

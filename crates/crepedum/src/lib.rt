@@ -7,18 +7,35 @@ pub mod looking; // looking.rt: the lookup
 ghost use Rattle.std.specs.Prelude.{◌≡◌, Bool};
 ghost use Rattle.format.specs.Refusals.{check_exports};
 ghost use Rattle.format.specs.Answers.{asked};
-ghost use Rattle.crepedum.specs.Words.{check_word, written_word, WritesWord};
+ghost use Rattle.crepedum.specs.Words.{reason_word, refusal_word, check_word, written_word, WritesWord};
 
-use format::{Checked, Written};
+use format::{Reason, Refusal};
 use keys::Row;
 
-// An answer of a check as one number: 0, or the refusal's number times 2^32, plus its place.
-fn check_word(c: Checked) -> u64
-    ensures { result ≡ check_word c }
+// A refusal's number stands above 32 bits.
+const NUMBER: u64 = 4294967296;
+
+// A reason as one number: the paper's times 2^32.
+fn reason_word(reason: Reason) -> u64
+    ensures { result ≡ reason_word reason }
 {
-    match c {
-        Checked::Fine => 0,
-        Checked::Refused { number, place } => (number as u64) * 4294967296 + (place as u64),
+    u64::from(reason.number()) * NUMBER
+}
+
+// A refusal as one number: its reason's, plus its place.
+fn refusal_word(refusal: Refusal) -> u64
+    ensures { result ≡ refusal_word refusal }
+{
+    reason_word(refusal.reason) + u64::from(refusal.place)
+}
+
+// An answer of a check as one number: 0, or the refusal's.
+fn check_word(checked: Result<(), Refusal>) -> u64
+    ensures { result ≡ check_word checked }
+{
+    match checked {
+        Ok(()) => 0,
+        Err(refusal) => refusal_word(refusal),
     }
 }
 
@@ -30,13 +47,13 @@ pub extern "C" fn crepedum_check(list: &[u8], machine: u32, mingw: bool) -> u64
     check_word(plans::check::check_exports(list, machine, mingw))
 }
 
-// An answer of asking or writing as one number: the total, or the refusal's number times 2^32, plus its place.
-fn written_word(w: Written) -> u64
-    ensures { result ≡ written_word w }
+// An answer of asking or writing as one number: the total, or the refusal's.
+fn written_word(written: Result<usize, Refusal>) -> u64
+    ensures { result ≡ written_word written }
 {
-    match w {
-        Written::Total(n) => n as u64,
-        Written::Refused { number, place } => (number as u64) * 4294967296 + (place as u64),
+    match written {
+        Ok(total) => total as u64,
+        Err(refusal) => refusal_word(refusal),
     }
 }
 

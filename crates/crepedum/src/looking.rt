@@ -1,20 +1,18 @@
 // The lookup, for programs in other languages: an answer is a number, and fields that the caller lends.
 ghost use Rattle.std.specs.Prelude.{◌≤◌, ◌≡◌, ◌++◌, length, drop};
-ghost use Rattle.format.specs.Answers.{ends};
+ghost use Rattle.format.specs.Answers.{ends, where_number, looked_values};
 ghost use Rattle.crepedum.specs.Reading.{Short};
-ghost use Rattle.crepedum.specs.Looking.{looked_count, looked, looked_word, looked_filled, looked_answer, looked_after, ShortLooked};
+ghost use Rattle.crepedum.specs.Looking.{looked_count, looked, looked_answer, looked_after, ShortLooked};
 
-use crate::reading::{NUMBER, TOO_FEW, put_all};
-use format::{Looked, Span};
+use crate::reading::{TOO_FEW, put_all};
+use crate::reason_word;
+use format::{Looked, Reason, Span};
 
 // How many fields an answer has at most.
 const FIELDS: usize = 2;
 
 // A set of so many bytes has places that no field holds.
 const TOO_LONG: usize = 4294967296;
-
-// The refusal of what is not a member set.
-const NO_SET: u64 = 17;
 
 // Puts a name's start and length into the first two fields; those after them stay.
 fn put_name(fields: &mut [u32], name: Span)
@@ -26,12 +24,11 @@ fn put_name(fields: &mut [u32], name: Span)
     put_all(fields, &values)
 }
 
-// Puts an answer's values into the fields, and returns its number. Fields that it has no value for stay as they were, all of
-// them on a refusal.
+// Puts an answer's values into the fields, and returns its number. Fields that it has no value for stay as they were.
 fn put_looked(fields: &mut [u32], looked: Looked) -> u64
     requires looked_count_in_bounds { looked_count ≤ length fields.old }
     requires short_looked { ShortLooked looked }
-    ensures { (result ≡ looked_word looked) × (fields.new ≡ looked_filled looked fields.old) }
+    ensures { (result ≡ where_number looked) × (fields.new ≡ looked_values looked ++ drop (length (looked_values looked)) fields.old) }
 {
     match looked {
         Looked::NotFound => {
@@ -49,9 +46,6 @@ fn put_looked(fields: &mut [u32], looked: Looked) -> u64
             put_name(fields, name);
             return 3;
         }
-        Looked::Refused { number, place: _ } => {
-            return (number as u64) * NUMBER;
-        }
     }
 }
 
@@ -63,10 +57,13 @@ pub extern "C" fn crepedum_lookup(set: &[u8], list: u32, symbol: &[u8], fields: 
     ensures { (result ≡ looked_answer (looked set.now list symbol.now) fields.old) × (fields.new ≡ looked_after (looked set.now list symbol.now) fields.old) }
 {
     if fields.len() < FIELDS {
-        return TOO_FEW * NUMBER;
+        return reason_word(TOO_FEW);
     }
     if TOO_LONG <= set.len() {
-        return NO_SET * NUMBER;
+        return reason_word(Reason::NotASet);
     }
-    put_looked(fields, lookup::lookup(set, list, symbol))
+    match lookup::lookup(set, list, symbol) {
+        Ok(looked) => put_looked(fields, looked),
+        Err(refusal) => reason_word(refusal.reason),
+    }
 }

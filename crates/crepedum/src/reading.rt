@@ -1,19 +1,20 @@
 // The reader, for programs in other languages: an answer is a number, and fields that the caller lends.
 ghost use Rattle.std.specs.Prelude.{◌+◌, ◌≤◌, ◌<◌, ◌≡◌, ◌∷◌, ◌++◌, length, drop};
-ghost use Rattle.format.specs.Answers.{bit, ends};
+ghost use Rattle.format.specs.Answers.{bit, ends, layout_number, read_values};
 ghost use Rattle.format.specs.Reader.{read_fields};
-ghost use Rattle.crepedum.specs.Reading.{field_count, read_word, filled, read_answer, fields_after, Short, Shorts};
+ghost use Rattle.crepedum.specs.Reading.{field_count, read_answer, fields_after, Short, Shorts};
 
-use format::{Read, Span};
+use crate::reason_word;
+use format::{Read, Reason, Span};
 
 // How many fields an answer has.
 const FIELDS: usize = 11;
 
 // The refusal of fewer fields.
-pub const TOO_FEW: u64 = 15;
+pub const TOO_FEW: Reason = Reason::NoRoom;
 
-// A refusal's number stands above 32 bits.
-pub const NUMBER: u64 = 4294967296;
+// What is more than a field holds.
+const TOO_MUCH: usize = 4294967296;
 
 // The name of a layout that has fewer.
 const NO_NAME: Span = Span {
@@ -25,10 +26,7 @@ const NO_NAME: Span = Span {
 fn bit(flag: bool) -> u32
     ensures { result ≡ bit flag }
 {
-    if flag {
-        return 1;
-    }
-    0
+    u32::from(flag)
 }
 
 // A length as a field. The test is never false; without it, two halves of a span would be loaded as one, which waits for both
@@ -37,7 +35,7 @@ fn narrow(length: usize) -> u32
     requires { length < 4294967296 }
     ensures { result ≡ length }
 {
-    if length < (NUMBER as usize) {
+    if length < TOO_MUCH {
         return length as u32;
     }
     0
@@ -48,11 +46,7 @@ pub fn put_all(fields: &mut [u32], values: &[u32])
     requires { length values.now ≤ length fields.old }
     ensures { fields.new ≡ values.now ++ drop (length values.now) fields.old }
 {
-    let mut i = 0;
-    while i < values.len() {
-        fields[i] = values[i];
-        i += 1;
-    }
+    fields[..values.len()].copy_from_slice(values);
 }
 
 // Puts the values of an answer into the first fields; those after them stay.
@@ -87,11 +81,11 @@ fn put_values(
     put_all(fields, &values)
 }
 
-// Puts an answer's values into the fields, and returns its number. A refusal leaves all fields as they were.
+// Puts an answer's values into the fields, and returns its number.
 fn put_read(fields: &mut [u32], read: Read) -> u64
     requires field_count_in_bounds { field_count ≤ length fields.old }
     requires shorts { Shorts read }
-    ensures { (result ≡ read_word read) × (fields.new ≡ filled read fields.old) }
+    ensures { (result ≡ layout_number read) × (fields.new ≡ read_values read ++ drop (length (read_values read)) fields.old) }
 {
     match read {
         Read::Descriptor {
@@ -145,9 +139,6 @@ fn put_read(fields: &mut [u32], read: Read) -> u64
             put_values(fields, machine, 0, 0, 0, false, target, alias, NO_NAME);
             return 5;
         }
-        Read::Refused { number, place: _ } => {
-            return (number as u64) * NUMBER;
-        }
     }
 }
 
@@ -158,7 +149,10 @@ pub extern "C" fn crepedum_read(member: &[u8], fields: &mut [u32]) -> u64
     ensures { (result ≡ read_answer (read_fields member.now) fields.old) × (fields.new ≡ fields_after (read_fields member.now) fields.old) }
 {
     if fields.len() < FIELDS {
-        return TOO_FEW * NUMBER;
+        return reason_word(TOO_FEW);
     }
-    put_read(fields, reader::read(member))
+    match reader::read(member) {
+        Ok(read) => put_read(fields, read),
+        Err(refusal) => reason_word(refusal.reason),
+    }
 }

@@ -1,5 +1,5 @@
 -- 01, "Build examples": P1 to P11, and what they leave untold, as one table about the definitions, proved by computation.
-use Rattle.std.specs.Prelude.{ℕ, zero, suc, ◌+◌, ◌*◌, ◌≡◌, refl, true, false, List, [], ◌∷◌, ◌++◌, map, length, drop, replicate}
+use Rattle.std.specs.Prelude.{ℕ, zero, suc, ◌+◌, ◌*◌, ◌≡◌, refl, true, false, List, [], ◌∷◌, ◌++◌, map, length, drop, replicate, Ok, Err}
 use Prim.Native.String.{String}
 use Rattle.std.proofs.Common.{ap}
 use Rattle.std.proofs.Math.Option.{none, some}
@@ -16,22 +16,21 @@ use Rattle.format.specs.Layouts.{Member, descriptor, null_descriptor, null_thunk
 use Rattle.format.specs.Library as Library
 use Rattle.format.specs.Library.{Options, imp, first_members, native_members, member_set}
 use Rattle.format.specs.Refusals as Refusals
-use Rattle.format.specs.Refusals.{check_exports}
+use Rattle.format.specs.Refusals.{refusal, check_exports}
 use Rattle.format.specs.Reader as Reader
 use Rattle.format.specs.Reader.{read_fields, span}
 use Rattle.format.specs.Lookup as Lookup
 use Rattle.format.specs.Lookup.{symbols, lookup}
 use Rattle.format.specs.Demands as Demands
-use Rattle.format.specs.Demands.{Where, leads, nowhere, not_found, by_ordinal, by_name, meaning}
+use Rattle.format.specs.Demands.{Where, leads, nowhere, not_found, by_ordinal, by_name, told}
 use Rattle.format.specs.Private.{no_more, private_right, same_next, Alike}
-use Rattle.format.specs.declared.Checked.TheVariants.{Fine, Refused}
+use Rattle.format.specs.Numbers as Numbers
+use Rattle.format.specs.declared.Reason.TheVariants.{UnknownMachine, TooShort, TooMany, WrongLayout, OutsideNames, EmptyString, TooLong, HasNul, UnknownFlag, BarredDll, NotRenamed, NoPublicName, NotMangled, NotDemangled, NoRoom, NotAMember, NotASet, FewSlots}
 use Rattle.format.specs.declared.Read.TheVariants.{ShortImport}
 use Rattle.format.specs.declared.Read.TheVariants as R
 use Rattle.format.specs.declared.Looked.TheVariants as L
-use Rattle.format.specs.declared.Written.{Written}
-use Rattle.format.specs.declared.Written.TheVariants as W
 use Rattle.format.specs.Answers as Answers
-use Rattle.format.specs.Answers.{asked, written, output_after, Writes}
+use Rattle.format.specs.Answers.{Written, asked, written, output_after, Writes}
 use Rattle.format.specs.Library.{set_bytes}
 
 -- ---- a list made for an example: its DLL name is att.dll
@@ -135,7 +134,7 @@ aliases machine t a = weak machine (ascii t) (ascii a) ∷ weak machine (imp (as
 
 -- where a symbol of the first list leads
 abbrev led : ℕ → List Given → Bytes → Where
-led machine gs s = meaning (member_set (on machine) (list gs)) (lookup (member_set (on machine) (list gs)) 1 s)
+led machine gs s = told (member_set (on machine) (list gs)) (lookup (member_set (on machine) (list gs)) 1 s)
 
 -- what a list's first members are
 abbrev firsts : ℕ → List Given → List Member
@@ -145,10 +144,10 @@ pub table :
     -- P1
     (numbers 10 (member_set (on amd64) (list [])) ≡ 3 ∷ 0 ∷ 0 ∷ 40 ∷ 40 ∷ 358 ∷ 398 ∷ 127 ∷ 525 ∷ 159 ∷ [])
     × (length (member_set (on amd64) (list [])) ≡ 684)
-    × (written (on amd64) (list []) 8192 684 ≡ W.Total 684)
-    × (written (on amd64) (list []) 8192 683 ≡ W.Refused 15 0)
-    × (written (on amd64) (list []) 8193 684 ≡ W.Total 684)
-    × (written (on amd64) (list []) 8191 683 ≡ W.Refused 19 0)
+    × (written (on amd64) (list []) 8192 684 ≡ Ok 684)
+    × (written (on amd64) (list []) 8192 683 ≡ Err (refusal NoRoom 0))
+    × (written (on amd64) (list []) 8193 684 ≡ Ok 684)
+    × (written (on amd64) (list []) 8191 683 ≡ Err (refusal FewSlots 0))
     -- P2, with the null thunk's symbol table at 108
     × (numbers 10 (member_set (on i386) (list [])) ≡ 3 ∷ 0 ∷ 0 ∷ 40 ∷ 40 ∷ 358 ∷ 398 ∷ 127 ∷ 525 ∷ 151 ∷ [])
     × (length (member_set (on i386) (list [])) ≡ 676)
@@ -169,17 +168,17 @@ pub table :
     × (replace (ascii "f@8") (ascii "_f") (ascii "_g") ≡ some (ascii "g@8"))
     × (replace (ascii "ff") (ascii "f") (ascii "g") ≡ some (ascii "gf"))
     -- P7
-    × (check_exports (on amd64) (list (renamed "a" "_a" "_" ∷ [])) ≡ Refused 12 0)
+    × (check_exports (on amd64) (list (renamed "a" "_a" "_" ∷ [])) ≡ Err (refusal NoPublicName 0))
     -- P8
     × (apply 2 (ascii "@_f") ≡ ascii "_f")
     × (apply 3 (ascii "?f@1@") ≡ ascii "f")
     -- P9
     × (firsts arm64ec (named "f" 0 0 ∷ []) ≡ exporting arm64ec "#f" "f" ∷ [])
-    × (check_exports (on arm64ec) (list (named "?f" 0 0 ∷ [])) ≡ Refused 13 0)
-    × (check_exports (on arm64ec) (list (named "?f$$h" 0 0 ∷ [])) ≡ Refused 14 0)
+    × (check_exports (on arm64ec) (list (named "?f" 0 0 ∷ [])) ≡ Err (refusal NotMangled 0))
+    × (check_exports (on arm64ec) (list (named "?f$$h" 0 0 ∷ [])) ≡ Err (refusal NotDemangled 0))
     -- P10 as amended; with noname or an export string it is written, under the symbols of the name itself
-    × (check_exports (on arm64ec) (list (named "#" 0 0 ∷ [])) ≡ Refused 14 0)
-    × (check_exports (on arm64ec) (list hashes) ≡ Fine)
+    × (check_exports (on arm64ec) (list (named "#" 0 0 ∷ [])) ≡ Err (refusal NotDemangled 0))
+    × (check_exports (on arm64ec) (list hashes) ≡ Ok tt)
     × (firsts arm64ec hashes ≡ short arm64ec 3 0 0 (ascii "#") dll [] ∷ exporting arm64ec "#" "x" ∷ exporting arm64ec "#" "y" ∷ [])
     × (symbols (exporting arm64ec "#" "x") ≡ ascii "__imp_#" ∷ ascii "#" ∷ ascii "__imp_aux_#" ∷ ascii "#" ∷ [])
     × (led arm64ec hashes (ascii "__imp_aux_#") ≡ leads (by_ordinal 3))
@@ -208,41 +207,41 @@ pub table :
     × (first_members (on arm64x) (lists (named "f" 0 0 ∷ []) (named "f" 0 0 ∷ [])) ≡ exporting arm64ec "#f" "f" ∷ [])
     × (native_members (on arm64x) (lists (named "f" 0 0 ∷ []) (named "f" 0 0 ∷ [])) ≡ plain_short arm64 1 "f" ∷ [])
     -- a place counts both lists and private records
-    × (check_exports (on arm64ec) (lists (named "?" 0 4 ∷ named "f" 0 0 ∷ []) (named "f" 0 0 ∷ named "g" 0 16 ∷ [])) ≡ Refused 9 3)
+    × (check_exports (on arm64ec) (lists (named "?" 0 4 ∷ named "f" 0 0 ∷ []) (named "f" 0 0 ∷ named "g" 0 16 ∷ [])) ≡ Err (refusal UnknownFlag 3))
     -- stems
     × (stem (ascii ".a") ≡ ascii ".a")
     × (stem (ascii "a.b.c") ≡ ascii "a.b")
     -- the reader's places
-    × (read_fields (encode (exporting amd64 "f" "x")) ≡ ShortImport amd64 0 4 0 (span 20 1) (span 22 7) (span 30 1))
+    × (read_fields (encode (exporting amd64 "f" "x")) ≡ Ok (ShortImport amd64 0 4 0 (span 20 1) (span 22 7) (span 30 1)))
     -- the reader: every layout's places
-    × (read_fields (encode (descriptor amd64 dll false)) ≡ R.Descriptor amd64 false (span 150 7) (span 308 3))
-    × (read_fields (encode (descriptor i386 dll true)) ≡ R.Descriptor i386 true (span 150 7) (span 308 3))
-    × (read_fields (encode (null_descriptor amd64 none)) ≡ R.NullDescriptor amd64 false (span 0 0))
-    × (read_fields (encode (null_descriptor amd64 (some (ascii "att")))) ≡ R.NullDescriptor amd64 true (span 127 3))
-    × (read_fields (encode (null_thunk i386 (ascii "/:"))) ≡ R.NullThunk i386 (span 131 2))
-    × (read_fields (encode (weak amd64 (ascii "_att_step") (ascii "att_go"))) ≡ R.WeakExternal amd64 (span 154 9) (span 164 6))
+    × (read_fields (encode (descriptor amd64 dll false)) ≡ Ok (R.Descriptor amd64 false (span 150 7) (span 308 3)))
+    × (read_fields (encode (descriptor i386 dll true)) ≡ Ok (R.Descriptor i386 true (span 150 7) (span 308 3)))
+    × (read_fields (encode (null_descriptor amd64 none)) ≡ Ok (R.NullDescriptor amd64 false (span 0 0)))
+    × (read_fields (encode (null_descriptor amd64 (some (ascii "att")))) ≡ Ok (R.NullDescriptor amd64 true (span 127 3)))
+    × (read_fields (encode (null_thunk i386 (ascii "/:"))) ≡ Ok (R.NullThunk i386 (span 131 2)))
+    × (read_fields (encode (weak amd64 (ascii "_att_step") (ascii "att_go"))) ≡ Ok (R.WeakExternal amd64 (span 154 9) (span 164 6)))
     -- and what it does not admit: ARM64EC but in short imports, a DLL name the writer refuses, kind 3, an empty export string, an empty
     -- weak name
-    × (read_fields (encode (weak arm64ec (ascii "t") (ascii "a"))) ≡ R.Refused 16 0)
-    × (read_fields (encode (short arm64ec 0 0 1 (ascii "t") (ascii ".") [])) ≡ R.Refused 16 0)
-    × (read_fields (encode (short arm64ec 0 3 1 (ascii "t") dll [])) ≡ R.Refused 16 0)
-    × (read_fields (encode (exporting arm64ec "#" "")) ≡ R.Refused 16 0)
-    × (read_fields (encode (weak amd64 [] (ascii "a"))) ≡ R.Refused 16 0)
+    × (read_fields (encode (weak arm64ec (ascii "t") (ascii "a"))) ≡ Err (refusal NotAMember 0))
+    × (read_fields (encode (short arm64ec 0 0 1 (ascii "t") (ascii ".") [])) ≡ Err (refusal NotAMember 0))
+    × (read_fields (encode (short arm64ec 0 3 1 (ascii "t") dll [])) ≡ Err (refusal NotAMember 0))
+    × (read_fields (encode (exporting arm64ec "#" "")) ≡ Err (refusal NotAMember 0))
+    × (read_fields (encode (weak amd64 [] (ascii "a"))) ≡ Err (refusal NotAMember 0))
     -- refusals: order and places
-    × (written (on 0x1014C) [] 0 0 ≡ W.Refused 1 0)
-    × (written (on amd64) (part (list []) 0 27) 0 0 ≡ W.Refused 2 0)
-    × (check_exports (on amd64) (le32 4097 ++ drop 4 (list [])) ≡ Refused 3 0)
-    × (check_exports (on amd64) (le32 4096 ++ le32 4096 ++ drop 8 (list [])) ≡ Refused 4 0)
-    × (check_exports (on amd64) (le32 0 ++ le32 0 ++ le32 29 ++ drop 12 (list [])) ≡ Refused 4 0)
-    × (check_exports (on amd64) (part (list []) 0 20 ++ le32 1 ++ le32 7 ++ dll) ≡ Refused 5 0)
-    × (check_exports (on amd64) (part (list []) 0 20 ++ le32 0 ++ le32 0 ++ dll) ≡ Refused 6 0)
-    × (check_exports (on amd64) (part (list []) 0 20 ++ le32 7 ++ le32 0 ++ dll) ≡ Refused 6 0)
-    × (check_exports (on amd64) (part (list []) 0 28 ++ ascii "att\0dll") ≡ Refused 8 0)
-    × (check_exports (on amd64) (part (list (named "f" 0 16 ∷ [])) 0 72 ++ ascii "att\\dllf") ≡ Refused 10 0)
-    × (check_exports (on amd64) (part (list []) 0 20 ++ le32 3 ++ le32 1 ++ dll) ≡ Refused 10 0)
-    × (check_exports (on arm64ec) (lists (named "?f" 0 4 ∷ named "f" 0 0 ∷ []) (named "?f" 0 0 ∷ renamed "a" "b" "_b" ∷ [])) ≡ Refused 11 3)
+    × (written (on 0x1014C) [] 0 0 ≡ Err (refusal UnknownMachine 0))
+    × (written (on amd64) (part (list []) 0 27) 0 0 ≡ Err (refusal TooShort 0))
+    × (check_exports (on amd64) (le32 4097 ++ drop 4 (list [])) ≡ Err (refusal TooMany 0))
+    × (check_exports (on amd64) (le32 4096 ++ le32 4096 ++ drop 8 (list [])) ≡ Err (refusal WrongLayout 0))
+    × (check_exports (on amd64) (le32 0 ++ le32 0 ++ le32 29 ++ drop 12 (list [])) ≡ Err (refusal WrongLayout 0))
+    × (check_exports (on amd64) (part (list []) 0 20 ++ le32 1 ++ le32 7 ++ dll) ≡ Err (refusal OutsideNames 0))
+    × (check_exports (on amd64) (part (list []) 0 20 ++ le32 0 ++ le32 0 ++ dll) ≡ Err (refusal EmptyString 0))
+    × (check_exports (on amd64) (part (list []) 0 20 ++ le32 7 ++ le32 0 ++ dll) ≡ Err (refusal EmptyString 0))
+    × (check_exports (on amd64) (part (list []) 0 28 ++ ascii "att\0dll") ≡ Err (refusal HasNul 0))
+    × (check_exports (on amd64) (part (list (named "f" 0 16 ∷ [])) 0 72 ++ ascii "att\\dllf") ≡ Err (refusal BarredDll 0))
+    × (check_exports (on amd64) (part (list []) 0 20 ++ le32 3 ++ le32 1 ++ dll) ≡ Err (refusal BarredDll 0))
+    × (check_exports (on arm64ec) (lists (named "?f" 0 4 ∷ named "f" 0 0 ∷ []) (named "?f" 0 0 ∷ renamed "a" "b" "_b" ∷ [])) ≡ Err (refusal NotRenamed 3))
     -- a record's flags come before its strings
-    × (check_exports (on amd64) (list (named "f\0" 0 16 ∷ [])) ≡ Refused 9 0)
+    × (check_exports (on amd64) (list (named "f\0" 0 16 ∷ [])) ≡ Err (refusal UnknownFlag 0))
     -- private exports are left out; a constant is 2 even if data; its plain symbol stays
     × (firsts amd64 (named "a" 0 4 ∷ named "b" 7 10 ∷ []) ≡ short amd64 7 2 1 (ascii "b") dll [] ∷ [])
     × (led amd64 (named "a" 0 10 ∷ wants "b" "a" 0 ∷ []) (ascii "b") ≡ leads (by_name (ascii "a")))
@@ -270,21 +269,21 @@ pub table :
     × (led arm64ec (named "f" 0 0 ∷ []) (ascii "#f") ≡ leads (by_name (ascii "f")))
     × (led arm64ec (named "f" 0 0 ∷ []) (ascii "__imp_#f") ≡ not_found)
     × (led amd64 (wants "b" "__imp_a" 0 ∷ named "__imp_a" 0 is_datum ∷ []) (ascii "b") ≡ nowhere)
-    × (lookup (member_set (on amd64) (list (named "a" 0 0 ∷ []))) 3 (ascii "a") ≡ L.NotFound)
-    × (lookup (member_set (on amd64) (list []) ++ 0 ∷ []) 3 [] ≡ L.Refused 17 0)
-    × (lookup (le32 3 ++ le32 1 ++ drop 8 (member_set (on amd64) (list []))) 1 [] ≡ L.Refused 17 0)
-    × (lookup (set_bytes 0 0 (map encode (null_descriptor amd64 none ∷ descriptor amd64 dll false ∷ null_thunk amd64 (ascii "att") ∷ []))) 1 [] ≡ L.Refused 17 0)
-    × (lookup (set_bytes 2 0 (map encode (descriptor amd64 dll false ∷ null_descriptor amd64 none ∷ null_thunk amd64 (ascii "att") ∷ weak amd64 (ascii "b") (ascii "a") ∷ weak amd64 (ascii "a") (ascii "b") ∷ []))) 1 (ascii "a") ≡ L.Nowhere)
+    × (lookup (member_set (on amd64) (list (named "a" 0 0 ∷ []))) 3 (ascii "a") ≡ Ok L.NotFound)
+    × (lookup (member_set (on amd64) (list []) ++ 0 ∷ []) 3 [] ≡ Err (refusal NotASet 0))
+    × (lookup (le32 3 ++ le32 1 ++ drop 8 (member_set (on amd64) (list []))) 1 [] ≡ Err (refusal NotASet 0))
+    × (lookup (set_bytes 0 0 (map encode (null_descriptor amd64 none ∷ descriptor amd64 dll false ∷ null_thunk amd64 (ascii "att") ∷ []))) 1 [] ≡ Err (refusal NotASet 0))
+    × (lookup (set_bytes 2 0 (map encode (descriptor amd64 dll false ∷ null_descriptor amd64 none ∷ null_thunk amd64 (ascii "att") ∷ weak amd64 (ascii "b") (ascii "a") ∷ weak amd64 (ascii "a") (ascii "b") ∷ []))) 1 (ascii "a") ≡ Ok L.Nowhere)
     -- what asking answers; the writer's output
-    × (asked (on amd64) (list []) ≡ W.Total 684)
-    × (asked (compat_on amd64) (list []) ≡ W.Total 692)
-    × (asked (on amd64) (lists (named "f" 0 0 ∷ []) (renamed "a" "b" "_b" ∷ [])) ≡ W.Refused 11 1)
+    × (asked (on amd64) (list []) ≡ Ok 684)
+    × (asked (compat_on amd64) (list []) ≡ Ok 692)
+    × (asked (on amd64) (lists (named "f" 0 0 ∷ []) (renamed "a" "b" "_b" ∷ [])) ≡ Err (refusal NotRenamed 1))
     × (part (output_after (on amd64) (list []) 8192 (replicate 686 9)) 682 4 ≡ 65 ∷ 0 ∷ 9 ∷ 9 ∷ [])
     × (firsts arm64ec (wants "f" "f" is_datum ∷ []) ≡ short arm64ec 0 1 4 (ascii "f") dll (ascii "f") ∷ [])
-    × (check_exports (on amd64) (part (list (named "f" 0 0 ∷ [])) 0 36 ++ le32 1 ++ drop 40 (list (named "f" 0 0 ∷ []))) ≡ Refused 6 0)
-    × (lookup (member_set (on amd64) (lists [] (named "a" 0 0 ∷ []))) 3 (ascii "a") ≡ L.NotFound)
-    × (check_exports (on amd64) (le32 0 ++ le32 0 ++ le32 28 ++ le32 28 ++ le32 256 ++ le32 0 ++ le32 256 ++ replicate 256 97) ≡ Refused 7 0)
-    × (read_fields (encode (short amd64 0 0 1 (replicate 8191 97) dll [])) ≡ R.Refused 16 0)
+    × (check_exports (on amd64) (part (list (named "f" 0 0 ∷ [])) 0 36 ++ le32 1 ++ drop 40 (list (named "f" 0 0 ∷ []))) ≡ Err (refusal EmptyString 0))
+    × (lookup (member_set (on amd64) (lists [] (named "a" 0 0 ∷ []))) 3 (ascii "a") ≡ Ok L.NotFound)
+    × (check_exports (on amd64) (le32 0 ++ le32 0 ++ le32 28 ++ le32 28 ++ le32 256 ++ le32 0 ++ le32 256 ++ replicate 256 97) ≡ Err (refusal TooLong 0))
+    × (read_fields (encode (short amd64 0 0 1 (replicate 8191 97) dll [])) ≡ Err (refusal NotAMember 0))
     -- the bytes of the other four layouts, as the Rust writes them
     × (encode (descriptor i386 (ascii "a.d") true) ≡ (76 ∷ 1 ∷ 2 ∷ 0 ∷ 0 ∷ 0 ∷ 0 ∷ 0 ∷ 154 ∷ 0 ∷ 0 ∷ 0 ∷ 7 ∷ 0 ∷ 0 ∷ 0 ∷ 0 ∷ 0 ∷ 0 ∷ 1 ∷ 46 ∷ 105 ∷ 100 ∷ 97 ∷ 116 ∷ 97 ∷ 36 ∷ 50 ∷ 0 ∷ 0 ∷ 0 ∷ 0 ∷ 0 ∷ 0 ∷ 0 ∷ 0 ∷ 20 ∷ 0 ∷ 0 ∷ 0 ∷ 100 ∷ 0 ∷ 0 ∷ 0 ∷ 120 ∷ 0 ∷ 0 ∷ 0 ∷ 0 ∷ 0 ∷ 0 ∷ 0 ∷ 3 ∷ 0 ∷ 0 ∷ 0 ∷ 64 ∷ 0 ∷ 48 ∷ 192 ∷ 46 ∷ 105 ∷ 100 ∷ 97 ∷ 116 ∷ 97 ∷ 36 ∷ 54 ∷ 0 ∷ 0 ∷ 0 ∷ 0 ∷ 0 ∷ 0 ∷ 0 ∷ 0 ∷ 4 ∷ 0 ∷ 0 ∷ 0 ∷ 150 ∷ 0 ∷ 0 ∷ 0 ∷ 0 ∷ 0 ∷ 0 ∷ 0 ∷ 0 ∷ 0 ∷ 0 ∷ 0 ∷ 0 ∷ 0 ∷ 0 ∷ 0 ∷ 64 ∷ 0 ∷ 32 ∷ 192 ∷ 0 ∷ 0 ∷ 0 ∷ 0 ∷ 0 ∷ 0 ∷ 0 ∷ 0 ∷ 0 ∷ 0 ∷ 0 ∷ 0 ∷ 0 ∷ 0 ∷ 0 ∷ 0 ∷ 0 ∷ 0 ∷ 0 ∷ 0 ∷ 12 ∷ 0 ∷ 0 ∷ 0 ∷ 2 ∷ 0 ∷ 0 ∷ 0 ∷ 7 ∷ 0 ∷ 0 ∷ 0 ∷ 0 ∷ 0 ∷ 3 ∷ 0 ∷ 0 ∷ 0 ∷ 7 ∷ 0 ∷ 16 ∷ 0 ∷ 0 ∷ 0 ∷ 4 ∷ 0 ∷ 0 ∷ 0 ∷ 7 ∷ 0 ∷ 97 ∷ 46 ∷ 100 ∷ 0 ∷ 0 ∷ 0 ∷ 0 ∷ 0 ∷ 4 ∷ 0 ∷ 0 ∷ 0 ∷ 0 ∷ 0 ∷ 0 ∷ 0 ∷ 1 ∷ 0 ∷ 0 ∷ 0 ∷ 2 ∷ 0 ∷ 46 ∷ 105 ∷ 100 ∷ 97 ∷ 116 ∷ 97 ∷ 36 ∷ 50 ∷ 0 ∷ 0 ∷ 0 ∷ 0 ∷ 1 ∷ 0 ∷ 0 ∷ 0 ∷ 104 ∷ 0 ∷ 46 ∷ 105 ∷ 100 ∷ 97 ∷ 116 ∷ 97 ∷ 36 ∷ 54 ∷ 0 ∷ 0 ∷ 0 ∷ 0 ∷ 2 ∷ 0 ∷ 0 ∷ 0 ∷ 3 ∷ 0 ∷ 46 ∷ 105 ∷ 100 ∷ 97 ∷ 116 ∷ 97 ∷ 36 ∷ 52 ∷ 0 ∷ 0 ∷ 0 ∷ 0 ∷ 0 ∷ 0 ∷ 0 ∷ 0 ∷ 104 ∷ 0 ∷ 46 ∷ 105 ∷ 100 ∷ 97 ∷ 116 ∷ 97 ∷ 36 ∷ 53 ∷ 0 ∷ 0 ∷ 0 ∷ 0 ∷ 0 ∷ 0 ∷ 0 ∷ 0 ∷ 104 ∷ 0 ∷ 0 ∷ 0 ∷ 0 ∷ 0 ∷ 26 ∷ 0 ∷ 0 ∷ 0 ∷ 0 ∷ 0 ∷ 0 ∷ 0 ∷ 0 ∷ 0 ∷ 0 ∷ 0 ∷ 2 ∷ 0 ∷ 0 ∷ 0 ∷ 0 ∷ 0 ∷ 53 ∷ 0 ∷ 0 ∷ 0 ∷ 0 ∷ 0 ∷ 0 ∷ 0 ∷ 0 ∷ 0 ∷ 0 ∷ 0 ∷ 2 ∷ 0 ∷ 72 ∷ 0 ∷ 0 ∷ 0 ∷ 95 ∷ 95 ∷ 73 ∷ 77 ∷ 80 ∷ 79 ∷ 82 ∷ 84 ∷ 95 ∷ 68 ∷ 69 ∷ 83 ∷ 67 ∷ 82 ∷ 73 ∷ 80 ∷ 84 ∷ 79 ∷ 82 ∷ 95 ∷ 97 ∷ 0 ∷ 95 ∷ 95 ∷ 78 ∷ 85 ∷ 76 ∷ 76 ∷ 95 ∷ 73 ∷ 77 ∷ 80 ∷ 79 ∷ 82 ∷ 84 ∷ 95 ∷ 68 ∷ 69 ∷ 83 ∷ 67 ∷ 82 ∷ 73 ∷ 80 ∷ 84 ∷ 79 ∷ 82 ∷ 95 ∷ 97 ∷ 0 ∷ 127 ∷ 97 ∷ 95 ∷ 78 ∷ 85 ∷ 76 ∷ 76 ∷ 95 ∷ 84 ∷ 72 ∷ 85 ∷ 78 ∷ 75 ∷ 95 ∷ 68 ∷ 65 ∷ 84 ∷ 65 ∷ 0 ∷ []))
     × (encode (descriptor amd64 (ascii "a.d") false) ≡ (100 ∷ 134 ∷ 2 ∷ 0 ∷ 0 ∷ 0 ∷ 0 ∷ 0 ∷ 154 ∷ 0 ∷ 0 ∷ 0 ∷ 7 ∷ 0 ∷ 0 ∷ 0 ∷ 0 ∷ 0 ∷ 0 ∷ 0 ∷ 46 ∷ 105 ∷ 100 ∷ 97 ∷ 116 ∷ 97 ∷ 36 ∷ 50 ∷ 0 ∷ 0 ∷ 0 ∷ 0 ∷ 0 ∷ 0 ∷ 0 ∷ 0 ∷ 20 ∷ 0 ∷ 0 ∷ 0 ∷ 100 ∷ 0 ∷ 0 ∷ 0 ∷ 120 ∷ 0 ∷ 0 ∷ 0 ∷ 0 ∷ 0 ∷ 0 ∷ 0 ∷ 3 ∷ 0 ∷ 0 ∷ 0 ∷ 64 ∷ 0 ∷ 48 ∷ 192 ∷ 46 ∷ 105 ∷ 100 ∷ 97 ∷ 116 ∷ 97 ∷ 36 ∷ 54 ∷ 0 ∷ 0 ∷ 0 ∷ 0 ∷ 0 ∷ 0 ∷ 0 ∷ 0 ∷ 4 ∷ 0 ∷ 0 ∷ 0 ∷ 150 ∷ 0 ∷ 0 ∷ 0 ∷ 0 ∷ 0 ∷ 0 ∷ 0 ∷ 0 ∷ 0 ∷ 0 ∷ 0 ∷ 0 ∷ 0 ∷ 0 ∷ 0 ∷ 64 ∷ 0 ∷ 32 ∷ 192 ∷ 0 ∷ 0 ∷ 0 ∷ 0 ∷ 0 ∷ 0 ∷ 0 ∷ 0 ∷ 0 ∷ 0 ∷ 0 ∷ 0 ∷ 0 ∷ 0 ∷ 0 ∷ 0 ∷ 0 ∷ 0 ∷ 0 ∷ 0 ∷ 12 ∷ 0 ∷ 0 ∷ 0 ∷ 2 ∷ 0 ∷ 0 ∷ 0 ∷ 3 ∷ 0 ∷ 0 ∷ 0 ∷ 0 ∷ 0 ∷ 3 ∷ 0 ∷ 0 ∷ 0 ∷ 3 ∷ 0 ∷ 16 ∷ 0 ∷ 0 ∷ 0 ∷ 4 ∷ 0 ∷ 0 ∷ 0 ∷ 3 ∷ 0 ∷ 97 ∷ 46 ∷ 100 ∷ 0 ∷ 0 ∷ 0 ∷ 0 ∷ 0 ∷ 4 ∷ 0 ∷ 0 ∷ 0 ∷ 0 ∷ 0 ∷ 0 ∷ 0 ∷ 1 ∷ 0 ∷ 0 ∷ 0 ∷ 2 ∷ 0 ∷ 46 ∷ 105 ∷ 100 ∷ 97 ∷ 116 ∷ 97 ∷ 36 ∷ 50 ∷ 0 ∷ 0 ∷ 0 ∷ 0 ∷ 1 ∷ 0 ∷ 0 ∷ 0 ∷ 104 ∷ 0 ∷ 46 ∷ 105 ∷ 100 ∷ 97 ∷ 116 ∷ 97 ∷ 36 ∷ 54 ∷ 0 ∷ 0 ∷ 0 ∷ 0 ∷ 2 ∷ 0 ∷ 0 ∷ 0 ∷ 3 ∷ 0 ∷ 46 ∷ 105 ∷ 100 ∷ 97 ∷ 116 ∷ 97 ∷ 36 ∷ 52 ∷ 0 ∷ 0 ∷ 0 ∷ 0 ∷ 0 ∷ 0 ∷ 0 ∷ 0 ∷ 104 ∷ 0 ∷ 46 ∷ 105 ∷ 100 ∷ 97 ∷ 116 ∷ 97 ∷ 36 ∷ 53 ∷ 0 ∷ 0 ∷ 0 ∷ 0 ∷ 0 ∷ 0 ∷ 0 ∷ 0 ∷ 104 ∷ 0 ∷ 0 ∷ 0 ∷ 0 ∷ 0 ∷ 26 ∷ 0 ∷ 0 ∷ 0 ∷ 0 ∷ 0 ∷ 0 ∷ 0 ∷ 0 ∷ 0 ∷ 0 ∷ 0 ∷ 2 ∷ 0 ∷ 0 ∷ 0 ∷ 0 ∷ 0 ∷ 51 ∷ 0 ∷ 0 ∷ 0 ∷ 0 ∷ 0 ∷ 0 ∷ 0 ∷ 0 ∷ 0 ∷ 0 ∷ 0 ∷ 2 ∷ 0 ∷ 70 ∷ 0 ∷ 0 ∷ 0 ∷ 95 ∷ 95 ∷ 73 ∷ 77 ∷ 80 ∷ 79 ∷ 82 ∷ 84 ∷ 95 ∷ 68 ∷ 69 ∷ 83 ∷ 67 ∷ 82 ∷ 73 ∷ 80 ∷ 84 ∷ 79 ∷ 82 ∷ 95 ∷ 97 ∷ 0 ∷ 95 ∷ 95 ∷ 78 ∷ 85 ∷ 76 ∷ 76 ∷ 95 ∷ 73 ∷ 77 ∷ 80 ∷ 79 ∷ 82 ∷ 84 ∷ 95 ∷ 68 ∷ 69 ∷ 83 ∷ 67 ∷ 82 ∷ 73 ∷ 80 ∷ 84 ∷ 79 ∷ 82 ∷ 0 ∷ 127 ∷ 97 ∷ 95 ∷ 78 ∷ 85 ∷ 76 ∷ 76 ∷ 95 ∷ 84 ∷ 72 ∷ 85 ∷ 78 ∷ 75 ∷ 95 ∷ 68 ∷ 65 ∷ 84 ∷ 65 ∷ 0 ∷ []))
@@ -426,8 +425,8 @@ hidden =
     }
 
 -- one slot is too few: whatever meets the writer's promise answers 19, and leaves the slot and the output as they were
-pub one_slot : (r : Written) (slots : List ℕ) (out : Bytes) → Writes (on amd64) (list []) (7 ∷ []) (9 ∷ []) r slots out → (r ≡ W.Refused 19 0) × (slots ≡ 7 ∷ []) × (out ≡ 9 ∷ [])
-unfolding Bytes.opened Machines.opened Exports.opened Names.opened Plan.opened Layouts.opened Library.opened Refusals.opened Answers.opened
+pub one_slot : (r : Written) (slots : List ℕ) (out : Bytes) → Writes (on amd64) (list []) (7 ∷ []) (9 ∷ []) r slots out → (r ≡ Err (refusal FewSlots 0)) × (slots ≡ 7 ∷ []) × (out ≡ 9 ∷ [])
+unfolding Bytes.opened Machines.opened Exports.opened Names.opened Plan.opened Layouts.opened Library.opened Refusals.opened Answers.opened Numbers.number_of
 one_slot r slots out w =
-    let is : r ≡ W.Refused 19 0 = w.answers in
-    (is, w.table (ap Answers.written_number is), w.output)
+    let is : r ≡ Err (refusal FewSlots 0) = w.answers in
+    (is, w.table (ap Answers.answer_number is), w.output)

@@ -1,5 +1,6 @@
 -- Laws of the slot table, whatever the keys are, so long as a record has one key at most.
-use Rattle.std.specs.Prelude.{if◌then◌else◌}
+use Rattle.std.specs.Prelude.{if◌then◌else◌, None, Some}
+use Rattle.std.specs.Prelude as std
 use Rattle.std.proofs.Common.{◌≡◌, ℕ, zero, suc, ◌+◌, ◌-◌, ◌%◌, ◌<◌, ◌≤◌, Bool, true, false, ◌&&◌, ◌||◌, eqb, List, [], length, set, sym, refl, ap, ◌∙◌, arith, get_or-set_other, get_or-set_same, eq-eqb, ne_eqb, eqb-true}
 use mathlib.Core.Bool.{false≢true}
 use mathlib.Core.Option.{Option, none, some, none-ne-some}
@@ -76,10 +77,10 @@ probe-tried h s e = omega arith
 -- ---- what a search finds
 
 -- the record where a search ended
-abbrev pub record_of : Spot → Option ℕ
-record_of (S.Free s) = none
-record_of (S.Used s k) = some k
-record_of S.Full = none
+abbrev pub record_of : std.Option Spot → Option ℕ
+record_of (Some (S.Free s)) = none
+record_of (Some (S.Used s k)) = some k
+record_of None = none
 
 or-true : (x : Bool) → (x || true) ≡ true
 or-true true = refl
@@ -173,7 +174,7 @@ module _ (p : Bytes → ℕ → Bool) (one : (w v : Bytes) (k : ℕ) → p w k �
               last-one (no b) =
                   false≢true (sym (first-before (ends p t w) 0 8192 d e r.after (omega arith) (omega arith)) ∙ reached-ends i f r)
 
-      pick : (q : Bool) → eqb (t (here d)).state 0 ≡ q → (l : Option ℕ) → last_in (p w) from n ≡ l → record_of (if q then S.Free (here d) else S.Used (here d) (t (here d)).«record») ≡ l
+      pick : (q : Bool) → eqb (t (here d)).state 0 ≡ q → (l : Option ℕ) → last_in (p w) from n ≡ l → record_of (if q then Some (S.Free (here d)) else Some (S.Used (here d) (t (here d)).«record»)) ≡ l
       pick true g l f = free (eqb-true (t (here d)).state 0 g) l f
       pick false g l f = taken (eqb-false (t (here d)).state 0 g) l f
 
@@ -181,10 +182,10 @@ module _ (p : Bytes → ℕ → Bool) (one : (w v : Bytes) (k : ℕ) → p w k �
   finds = found (first (ends p t w) 0 8192) refl (last_in (p w) from n) refl
 
   -- by the code's answer
-  pub found-last : {x : Spot} → x ≡ sought p t w → record_of x ≡ last_in (p w) from n
+  pub found-last : {x : std.Option Spot} → x ≡ sought p t w → record_of x ≡ last_in (p w) from n
   found-last e = ap record_of e ∙ finds
 
-  pub found-old : {s k : ℕ} → S.Used s k ≡ sought p t w → k < from + n
+  pub found-old : {s k : ℕ} → Some (S.Used s k) ≡ sought p t w → k < from + n
   found-old {s} {k} e = (last-there (p w) from n k (sym (found-last e))).below
 
 -- ---- counting
@@ -269,7 +270,7 @@ module _ (p : Bytes → ℕ → Bool) (one : (w v : Bytes) (k : ℕ) → p w k �
   unfolding spot_at spot_of
   only r g u e = pick (eqb (t s).state 0) refl (ap (λ (o : Option ℕ). record_of (spot_of t w o)) (sym stops) ∙ finds p one from n t E w ∙ slot-latest p one from n t E w r g u e)
     where
-      pick : (q : Bool) → eqb (t s).state 0 ≡ q → record_of (if q then S.Free s else S.Used s (t s).«record») ≡ some (t r).«record» → r ≡ s
+      pick : (q : Bool) → eqb (t s).state 0 ≡ q → record_of (if q then Some (S.Free s) else Some (S.Used s (t s).«record»)) ≡ some (t r).«record» → r ≡ s
       pick true z f = absurd (none-ne-some (t r).«record» f)
       pick false z f = let is : (t r).«record» ≡ (t s).«record» = cc in E.apart r s g small u (eqb-false (t s).state 0 z) is
 
@@ -431,12 +432,12 @@ module _ (p : Bytes → ℕ → Bool) (t : ℕ → Slot) (w : Bytes) (d : ℕ) {
   record-there = ap (λ (x : Slot). x.«record») there
 
   module _ (so_far : first (ends p t w) 0 8192 ≡ first (ends p t w) d (8192 - d)) (more : d < 8192) where
-    pub spot-free : x.state ≡ 0 → S.Free at ≡ sought p t w
+    pub spot-free : x.state ≡ 0 → Some (S.Free at) ≡ sought p t w
     unfolding spot_at spot_of
     spot-free z =
         let is = state-there ∙ z in
         let stops = so_far ∙ first-here (ends p t w) d 8192 more (free-ends p t w d is) in
-        ap S.Free place ∙ sym (ap (spot_of t w) stops ∙ rw (eq-eqb (t (probe (hash_of w) d)).state 0 is))
+        ap (λ (s : ℕ). Some (S.Free s)) place ∙ sym (ap (spot_of t w) stops ∙ rw (eq-eqb (t (probe (hash_of w) d)).state 0 is))
 
     module _ (u : x.state ≡ 0 → ⊥) where
       used : Used t (probe (hash_of w) d)
@@ -455,24 +456,24 @@ module _ (p : Bytes → ℕ → Bool) (t : ℕ → Slot) (w : Bytes) (d : ℕ) {
         pub spot-unlike : r ≡ false → first (ends p t w) 0 8192 ≡ first (ends p t w) (d + 1) (8192 - (d + 1))
         spot-unlike z = so_far ∙ first-later (ends p t w) d 8192 more (by-key ∙ z)
 
-        pub spot-used : r ≡ true → S.Used at x.«record» ≡ sought p t w
+        pub spot-used : r ≡ true → Some (S.Used at x.«record») ≡ sought p t w
         unfolding spot_at spot_of
         spot-used z =
             let stops = so_far ∙ first-here (ends p t w) d 8192 more (by-key ∙ z) in
             rw (place, ← record-there) (sym (ap (spot_of t w) stops ∙ rw (ne_eqb (t (probe (hash_of w) d)).state 0 used)))
 
 -- no slot is left to try
-pub spot-full : (p : Bytes → ℕ → Bool) (t : ℕ → Slot) (w : Bytes) (d : ℕ) → first (ends p t w) 0 8192 ≡ first (ends p t w) d (8192 - d) → 8192 ≤ d → S.Full ≡ sought p t w
+pub spot-full : (p : Bytes → ℕ → Bool) (t : ℕ → Slot) (w : Bytes) (d : ℕ) → first (ends p t w) 0 8192 ≡ first (ends p t w) d (8192 - d) → 8192 ≤ d → None ≡ sought p t w
 unfolding first spot_of
 spot-full p t w d so_far done =
     let z : 8192 - d ≡ 0 = omega arith in
     sym (ap (spot_of t w) (so_far ∙ ap (first (ends p t w) d) z))
 
 -- the place where a search ended
-abbrev pub place_in : Spot → Option ℕ
-place_in (S.Free s) = some s
-place_in (S.Used s k) = some s
-place_in S.Full = none
+abbrev pub place_in : std.Option Spot → Option ℕ
+place_in (Some (S.Free s)) = some s
+place_in (Some (S.Used s k)) = some s
+place_in None = none
 
 pub record Stopped (p : Bytes → ℕ → Bool) (t : ℕ → Slot) (w : Bytes) (s : ℕ) : Type 0 where
   pub after : ℕ
@@ -480,11 +481,11 @@ pub record Stopped (p : Bytes → ℕ → Bool) (t : ℕ → Slot) (w : Bytes) (
   pub at : s ≡ probe (hash_of w) after
 
 module _ (p : Bytes → ℕ → Bool) (t : ℕ → Slot) (w : Bytes) where
-  place-by : (q : Bool) (s k : ℕ) → place_in (if q then S.Free s else S.Used s k) ≡ some s
+  place-by : (q : Bool) (s k : ℕ) → place_in (if q then Some (S.Free s) else Some (S.Used s k)) ≡ some s
   place-by true s k = refl
   place-by false s k = refl
 
-  pub stopped : {x : Spot} {s : ℕ} → x ≡ sought p t w → place_in x ≡ some s → Stopped p t w s
+  pub stopped : {x : std.Option Spot} {s : ℕ} → x ≡ sought p t w → place_in x ≡ some s → Stopped p t w s
   unfolding spot_at spot_of
   stopped {x} {s} e f = by (first (ends p t w) 0 8192) refl (ap place_in (sym e) ∙ f)
     where
@@ -494,7 +495,7 @@ module _ (p : Bytes → ℕ → Bool) (t : ℕ → Slot) (w : Bytes) where
           let both : some (probe (hash_of w) d) ≡ some s = sym (place-by (eqb (t (probe (hash_of w) d)).state 0) (probe (hash_of w) d) (t (probe (hash_of w) d)).«record») ∙ z in
           record { after = d; stops = h; at = let is : probe (hash_of w) d ≡ s = cc in sym is }
 
-  pub unstopped : S.Full ≡ sought p t w → first (ends p t w) 0 8192 ≡ none
+  pub unstopped : None ≡ sought p t w → first (ends p t w) 0 8192 ≡ none
   unfolding spot_at spot_of
   unstopped e = by (first (ends p t w) 0 8192) (ap place_in (sym e))
     where

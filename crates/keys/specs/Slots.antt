@@ -1,5 +1,6 @@
 -- A table of 8,192 slots, as a function of the place: each has a state, a hash and a record's number. A key is looked for from the slot of its hash on.
-use Rattle.std.specs.Prelude.{◌≡◌, ℕ, zero, suc, ◌+◌, ◌%◌, ◌<◌, ◌≤◌, Bool, ◌&&◌, ◌||◌, List, [], ◌∷◌, ◌==◌, nat_eq, slice_index, slice_index_or, if◌then◌else◌}
+use Rattle.std.specs.Prelude.{◌≡◌, ℕ, zero, suc, ◌+◌, ◌%◌, ◌<◌, ◌≤◌, Bool, ◌&&◌, ◌||◌, List, [], ◌∷◌, ◌==◌, nat_eq, slice_index, slice_index_or, if◌then◌else◌, None, Some}
+use Rattle.std.specs.Prelude as std
 use Rattle.std.proofs.Math.Option.{Option, none, some}
 use Rattle.wire.specs.Bytes.{Bytes, first}
 use Rattle.plans.specs.Keys.{last_in}
@@ -52,16 +53,16 @@ ends p f w d =
     (s.state == 0) || (s.hash == hash_of w && p w s.«record»)
 
 -- what stands at a place where a search ended
-unfoldable pub spot_at : (ℕ → Slot) → ℕ → Spot
-spot_at f s = if (f s).state == 0 then S.Free s else S.Used s (f s).«record»
+unfoldable pub spot_at : (ℕ → Slot) → ℕ → std.Option Spot
+spot_at f s = if (f s).state == 0 then Some (S.Free s) else Some (S.Used s (f s).«record»)
 
 -- where a search ended that tried d slots before, or all
-unfoldable pub spot_of : (ℕ → Slot) → Bytes → Option ℕ → Spot
-spot_of f w none = S.Full
+unfoldable pub spot_of : (ℕ → Slot) → Bytes → Option ℕ → std.Option Spot
+spot_of f w none = None
 spot_of f w (some d) = spot_at f (probe (hash_of w) d)
 
 -- where the search for a key ends
-abbrev pub sought : (Bytes → ℕ → Bool) → (ℕ → Slot) → Bytes → Spot
+abbrev pub sought : (Bytes → ℕ → Bool) → (ℕ → Slot) → Bytes → std.Option Spot
 sought p f w = spot_of f w (first (ends p f w) 0 8192)
 
 -- ---- what a table holds when n records from one on were entered

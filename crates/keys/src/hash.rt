@@ -13,11 +13,9 @@ fn step(h: u32, c: u8) -> u32
 pub fn hash(key: &[u8]) -> u32
     ensures { result ≡ hash_of key.now }
 {
-    let mut h: u32 = 5381;
-    let mut i = 0;
-    while i < key.len() {
-        h = step(h, key[i]);
-        i += 1;
+    let mut h = 5381;
+    for c in key {
+        h = step(h, *c);
     }
     h
 }

@@ -5,7 +5,7 @@
 
 mod hash; // hash.rt: the hash of a key
 
-ghost use Rattle.std.specs.Prelude.{◌≡◌, ℕ, ◌+◌, ◌-◌, ◌<◌, ◌≤◌, true, length, ◌≢◌, slice_index, slice_set};
+ghost use Rattle.std.specs.Prelude.{◌≡◌, ℕ, ◌+◌, ◌-◌, ◌<◌, ◌≤◌, true, length, ◌≢◌, slice_index, slice_set, Ok};
 ghost use Rattle.std.proofs.Math.Option.{some};
 ghost use Rattle.wire.specs.Bytes.{Bytes};
 ghost use Rattle.format.specs.Machines.{arm64ec};
@@ -13,7 +13,6 @@ ghost use Rattle.format.specs.Exports.{both_counts, export_at};
 ghost use Rattle.format.specs.Plan.{plan_public};
 ghost use Rattle.format.specs.Library.{answers_to};
 ghost use Rattle.format.specs.Refusals.{check_list};
-ghost use Rattle.format.specs.declared.Checked.TheVariants.{Fine};
 ghost use Rattle.lists.specs.Held.{Held};
 ghost use Rattle.plans.specs.Keys.{key_at, last_in};
 ghost use Rattle.keys.specs.Hash.{hash_of};
@@ -23,9 +22,9 @@ ghost use Rattle.keys.specs.Targets.{target_of, any_wanted, Resolved};
 use crate::hash::hash;
 use coff::constants::IMAGE_FILE_MACHINE_ARM64EC;
 use lists::record;
-use names::{rename, types};
+use names::types;
 use plans::keys::key_is;
-use plans::{Shape, plan};
+use plans::{plan, public};
 
 // How many slots a table has; those past them are not used.
 pub const SLOTS: usize = 8192;
@@ -50,15 +49,13 @@ pub struct Slot {
     pub record: u32,
 }
 
-// Where a search for a key ends.
+// Where a search for a key ends. It ends nowhere where every slot has a record, and none the key.
 #[derive(Clone, Copy)]
 pub enum Spot {
     // At a free slot, by its place.
     Free(usize),
     // At a slot whose record has the key, by its place, and that record.
     Used(usize, u32),
-    // Nowhere: every slot has a record, and none the key.
-    Full,
 }
 
 // The slot at a place.
@@ -107,8 +104,7 @@ fn clear(slots: &mut [Row])
     requires { 8192 ≤ length slots.old }
     ensures { (s : ℕ) → s < 8192 → (slot_at slots.new s).state ≡ 0 }
 {
-    let mut i = 0;
-    while i < SLOTS {
+    for i in 0..SLOTS {
         put(
             slots,
             i,
@@ -118,45 +114,39 @@ fn clear(slots: &mut [Row])
                 record: 0,
             },
         );
-        i += 1;
     }
 }
 
 // Where the search for a key ends, given its hash. Only where hashes are equal are keys compared.
-fn seek(slots: &[Row], b: &[u8], machine: u16, mingw: bool, key: &[u8], h: u32) -> Spot
+fn seek(slots: &[Row], b: &[u8], machine: u16, mingw: bool, key: &[u8], h: u32) -> Option<Spot>
     requires in_bounds { 8192 ≤ length slots.now }
     requires within { Within (both_counts b.now) (slot_at slots.now) }
-    requires b_value { check_list b.now ≡ Fine }
+    requires b_value { check_list b.now ≡ Ok tt }
     requires not_arm64ec { machine ≢ arm64ec }
     requires h_value { h ≡ hash_of key.now }
     ensures { result ≡ sought (key_at machine mingw b.now) (slot_at slots.now) key.now }
 {
-    let mut d = 0;
-    while d < SLOTS {
+    for d in 0..SLOTS {
         let at = probe(h, d);
         let s = get(slots, at);
         if s.state == FREE {
-            return Spot::Free(at);
+            return Some(Spot::Free(at));
         }
-        let stored = s.hash;
-        if stored != h {
-            d += 1;
+        if s.hash != h {
             continue;
         }
-        let same = key_is(b, s.record, machine, mingw, key);
-        if same {
-            return Spot::Used(at, s.record);
+        if key_is(b, s.record, machine, mingw, key) {
+            return Some(Spot::Used(at, s.record));
         }
-        d += 1;
     }
-    Spot::Full
+    None
 }
 
 // Inserts a record under its key where the search for that ends: a record with an equal key gives way.
 fn insert(slots: &mut [Row], b: &[u8], k: u32, machine: u16, mingw: bool, from: u32, key: &[u8])
     requires in_bounds { 8192 ≤ length slots.old }
     requires entered { Entered (key_at machine mingw b.now) from (k - from) (slot_at slots.old) }
-    requires b_value { check_list b.now ≡ Fine }
+    requires b_value { check_list b.now ≡ Ok tt }
     requires not_arm64ec { machine ≢ arm64ec }
     requires from_le_k { (from ≤ k) × (k < both_counts b.now) × (k < 8192) }
     requires k_value { key_at machine mingw b.now key.now k ≡ true }
@@ -164,12 +154,12 @@ fn insert(slots: &mut [Row], b: &[u8], k: u32, machine: u16, mingw: bool, from: 
 {
     let h = hash(key);
     match seek(slots, b, machine, mingw, key, h) {
-        Spot::Free(at) => put(slots, at, holding(h, k)),
-        Spot::Used(at, _first) => {
+        Some(Spot::Free(at)) => put(slots, at, holding(h, k)),
+        Some(Spot::Used(at, _first)) => {
             let last = holding(h, k);
             put(slots, at, last);
         }
-        Spot::Full => {}
+        None => {}
     }
 }
 
@@ -185,7 +175,7 @@ fn insert_named(
 )
     requires in_bounds { 8192 ≤ length slots.old }
     requires entered { Entered (key_at machine mingw b.now) from (k - from) (slot_at slots.old) }
-    requires b_value { check_list b.now ≡ Fine }
+    requires b_value { check_list b.now ≡ Ok tt }
     requires not_arm64ec { machine ≢ arm64ec }
     requires from_le_k { (from ≤ k) × (k < both_counts b.now) }
     requires held { Held b.now k }
@@ -193,12 +183,8 @@ fn insert_named(
     ensures { Entered (key_at machine mingw b.now) from (k + 1 - from) (slot_at slots.new) }
 {
     match plan(b, k, machine, mingw, public) {
-        Shape::Short {
-            hashed: _,
-            name_type,
-            export: _,
-        } => {
-            let s = types::apply_name_type(name_type, public);
+        Ok(Some(short)) => {
+            let s = types::apply_name_type(short.name_type, public);
             insert(
                 slots,
                 b,
@@ -209,8 +195,8 @@ fn insert_named(
                 wire::part(public, s.start, s.length),
             );
         }
-        Shape::Deferred => {}
-        Shape::Refused { number: _ } => {}
+        Ok(None) => {}
+        Err(_) => {}
     }
 }
 
@@ -218,7 +204,7 @@ fn insert_named(
 fn insert_record(slots: &mut [Row], b: &[u8], k: u32, machine: u16, mingw: bool, from: u32)
     requires in_bounds { 8192 ≤ length slots.old }
     requires entered { Entered (key_at machine mingw b.now) from (k - from) (slot_at slots.old) }
-    requires b_value { check_list b.now ≡ Fine }
+    requires b_value { check_list b.now ≡ Ok tt }
     requires not_arm64ec { machine ≢ arm64ec }
     requires from_le_k { (from ≤ k) × (k < both_counts b.now) }
     requires held { Held b.now k }
@@ -230,34 +216,23 @@ fn insert_record(slots: &mut [Row], b: &[u8], k: u32, machine: u16, mingw: bool,
     if record::absent(b, k, record::EXT_NAME) {
         return insert_named(slots, b, k, machine, mingw, from, record::base(b, k));
     }
-    let r = rename::replace(
-        record::base(b, k),
-        record::string(b, k, record::NAME),
-        record::string(b, k, record::EXT_NAME),
-    );
-    let found = r.found;
-    if !found {
+    let Some(name) = public::renamed(b, k) else {
         return;
-    }
-    let name = r.name;
-    let bytes = name.bytes;
-    let n = name.len;
-    insert_named(slots, b, k, machine, mingw, from, &bytes[..n]);
+    };
+    insert_named(slots, b, k, machine, mingw, from, name.as_slice());
 }
 
 // Fills the table with the records from one up to another, whatever it held.
 fn insert_all(slots: &mut [Row], b: &[u8], machine: u16, mingw: bool, from: u32, to: u32)
     requires in_bounds { 8192 ≤ length slots.old }
-    requires b_value { check_list b.now ≡ Fine }
+    requires b_value { check_list b.now ≡ Ok tt }
     requires not_arm64ec { machine ≢ arm64ec }
     requires from_le_to { (from ≤ to) × (to ≤ both_counts b.now) }
     ensures { Entered (key_at machine mingw b.now) from (to - from) (slot_at slots.new) }
 {
     clear(slots);
-    let mut k = from;
-    while k < to {
+    for k in from..to {
         insert_record(slots, b, k, machine, mingw, from);
-        k += 1;
     }
 }
 
@@ -273,16 +248,16 @@ fn find(
 ) -> u16
     requires in_bounds { 8192 ≤ length slots.now }
     requires entered { Entered (key_at machine mingw b.now) from (to - from) (slot_at slots.now) }
-    requires b_value { check_list b.now ≡ Fine }
+    requires b_value { check_list b.now ≡ Ok tt }
     requires not_arm64ec { machine ≢ arm64ec }
     requires from_le_to { (from ≤ to) × (to ≤ both_counts b.now) }
     ensures { result ≡ target_of (last_in (key_at machine mingw b.now wanted.now) from (to - from)) }
 {
     let h = hash(wanted);
     match seek(slots, b, machine, mingw, wanted, h) {
-        Spot::Free(_) => NO_TARGET,
-        Spot::Used(_, k) => k as u16,
-        Spot::Full => NO_TARGET,
+        Some(Spot::Used(_, k)) => k as u16,
+        Some(Spot::Free(_)) => NO_TARGET,
+        None => NO_TARGET,
     }
 }
 
@@ -298,36 +273,31 @@ fn find_all(
 )
     requires in_bounds { 8192 ≤ length slots.now }
     requires entered { Entered (key_at machine mingw b.now) from (to - from) (slot_at slots.now) }
-    requires b_value { check_list b.now ≡ Fine }
+    requires b_value { check_list b.now ≡ Ok tt }
     requires not_arm64ec { machine ≢ arm64ec }
     requires from_le_to { (from ≤ to) × (to ≤ both_counts b.now) }
     requires b_in_bounds { both_counts b.now ≤ length targets.old }
     ensures { Resolved machine mingw b.now from (to - from) targets.new × ((j : ℕ) → j < from → slice_index targets.new j ≡ slice_index targets.old j) }
 {
-    let mut k = from;
-    while k < to {
+    for k in from..to {
         if record::absent(b, k, record::IMPORT_NAME) {
-            k += 1;
             continue;
         }
         let wanted = record::string(b, k, record::IMPORT_NAME);
         targets[k as usize] = find(slots, b, machine, mingw, from, to, wanted);
-        k += 1;
     }
 }
 
 // Whether one of the records from one up to another has an import_name.
 pub fn has_wanted(b: &[u8], from: u32, to: u32) -> bool
-    requires b_value { check_list b.now ≡ Fine }
+    requires b_value { check_list b.now ≡ Ok tt }
     requires from_le_to { (from ≤ to) × (to ≤ both_counts b.now) }
     ensures { result ≡ any_wanted b.now from (to - from) }
 {
-    let mut k = from;
-    while k < to {
+    for k in from..to {
         if !record::absent(b, k, record::IMPORT_NAME) {
             return true;
         }
-        k += 1;
     }
     false
 }
@@ -345,7 +315,7 @@ pub fn resolve(
     targets: &mut [u16],
 )
     requires in_bounds { 8192 ≤ length slots.old }
-    requires b_value { check_list b.now ≡ Fine }
+    requires b_value { check_list b.now ≡ Ok tt }
     requires from_le_to { (from ≤ to) × (to ≤ both_counts b.now) }
     requires b_in_bounds { both_counts b.now ≤ length targets.old }
     ensures { ((machine ≢ arm64ec) → Resolved machine mingw b.now from (to - from) targets.new) × ((j : ℕ) → j < from → slice_index targets.new j ≡ slice_index targets.old j) }

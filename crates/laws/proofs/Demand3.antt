@@ -1,5 +1,5 @@
 -- Demand 3: where each symbol of an accepted list leads, from the written bytes alone.
-use Rattle.std.specs.Prelude.{if◌then◌else◌}
+use Rattle.std.specs.Prelude.{Ok, if◌then◌else◌}
 use Prim.Native.Nat.{ℕ}
 use mathlib.Core.Path.{◌≡◌, refl, sym, ap, ◌∙◌, subst}
 use mathlib.Core.Logic.{◌⊎◌, inl, inr, ⊎_elim}
@@ -17,8 +17,7 @@ use Rattle.format.specs.Layouts.{Member, descriptor, null_descriptor, null_thunk
 use Rattle.format.specs.Library.{Options, imp, answers_to, final, last_answering, short_member, alias_members, alias_or_short, deferred_member, shorts, deferreds, members_of, first_members, native_members, member_set}
 use Rattle.format.specs.Refusals.{check_exports}
 use Rattle.format.specs.Lookup.{shown, symbols, list_of, lookup_set, lookup, Placed, read_set}
-use Rattle.format.specs.Demands.{by_name, not_found, nowhere, leads, meaning, asks, Leading, to, short_leads, alias_leads, leadings, Asked, Defines, Distinct, Plainly, Kept, Closed, Demand3, Promised}
-use Rattle.format.specs.declared.Checked.TheVariants.{Fine}
+use Rattle.format.specs.Demands.{by_name, not_found, nowhere, leads, told, asks, Leading, to, short_leads, alias_leads, leadings, Asked, Defines, Distinct, Plainly, Kept, Closed, Demand3, Promised}
 use Rattle.laws.proofs.Accepted.{GoodExport, accepted}
 use Rattle.laws.proofs.Plans.{choice-final, PlanBounds, of-deferred, plan-bounds}
 use Rattle.laws.proofs.Members.{last-answering}
@@ -334,8 +333,8 @@ module _ (machine : ℕ) (mingw : Bool) (dll : Bytes) (es : List Export) where
 -- a list of a set that is read, with its members
 module _ (set : Bytes) (number machine : ℕ) (mingw : Bool) (dll : Bytes) (es : List Export) (ps : List Placed) (r : read_set set ≡ some ps)
     (l : Listed set number ps (members_of machine mingw dll es)) where
-  means : (s : Bytes) → meaning set (lookup set number s) ≡ leads_in (members_of machine mingw dll es) s
-  unfolding lookup lookup_set
+  means : (s : Bytes) → told set (lookup set number s) ≡ leads_in (members_of machine mingw dll es) s
+  unfolding lookup lookup_set told
   means s = rw r (lookup_in-means set (list_of set number ps) l.stand s ∙ ap (λ (ms : List Member). leads_in ms s) l.members)
 
   list-kept : ((e : Export) → Memᴰ e es → GoodExport e) → Distinct (members_of machine mingw dll es) → Plainly es → Kept set number machine mingw es
@@ -344,7 +343,7 @@ module _ (set : Bytes) (number machine : ℕ) (mingw : Bool) (dll : Bytes) (es :
   list-closed : Closed set number machine mingw es
   list-closed = record { others = λ s h. means s ∙ list-others machine mingw dll es s h }
 
-pub demand3 : (o : Options) (b : Bytes) → Octets b → check_exports o b ≡ Fine → Demand3 o b
+pub demand3 : (o : Options) (b : Bytes) → Octets b → check_exports o b ≡ Ok tt → Demand3 o b
 unfolding first_members native_members
 demand3 o b small e =
     let read = written-read o b small e in

@@ -1,8 +1,8 @@
 -- Every member of an accepted list is one that the reader admits.
-use Rattle.std.specs.Prelude.{if◌then◌else◌}
-use Prim.Native.Nat.{ℕ, zero, suc, ◌+◌, ◌-◌, ◌≤◌, ◌<◌}
+use Rattle.std.specs.Prelude.{Ok, if◌then◌else◌}
+use Prim.Native.Nat.{ℕ, zero, suc, ◌+◌, ◌≤◌, ◌<◌}
 use mathlib.Core.Path.{◌≡◌, refl, sym}
-use mathlib.Core.Logic.{◌⊎◌, ⊎_elim}
+use mathlib.Core.Logic.{⊎_elim}
 use mathlib.Core.Bool.{Bool, true, false, ◌||◌, not}
 use mathlib.Core.Option.{Option, none, some, none-ne-some}
 use mathlib.Core.List.Memᴰ
@@ -21,7 +21,6 @@ use Rattle.format.specs.Layouts.{Member, descriptor, null_descriptor, null_thunk
 use Rattle.format.specs.Library.{Options, imp, answers_to, final, last_answering, short_member, alias_members, alias_or_short, deferred_member, shorts, deferreds, members_of, fixed_members, first_members, native_members, all_members}
 use Rattle.format.specs.Refusals.{max_dll, check_exports}
 use Rattle.format.specs.Reader.{between, admits_dll, admits_stem, admits_export, ordinary, admits}
-use Rattle.format.specs.declared.Checked.TheVariants.{Fine}
 use Rattle.laws.proofs.Accepted.{Good, GoodExport, Accepted, accepted}
 use Rattle.laws.proofs.Names.{last-at}
 use Rattle.laws.proofs.ReadBack.{known-each}
@@ -306,7 +305,7 @@ native-admitted o b small a =
     (ordinary-listed (native_machine o.machine) (native-ordinary o.machine (machine-cases o.machine a.machine)))
     (dll-admitted (dll_name b) a.dll a.unbarred) (native_exports b) a.natives (exports-numbered b small (first_count b) (native_count b))
 
-pub all-admitted : (o : Options) (b : Bytes) → Octets b → check_exports o b ≡ Fine → (m : Member) → Memᴰ m (all_members o b) → admits m ≡ true
+pub all-admitted : (o : Options) (b : Bytes) → Octets b → check_exports o b ≡ Ok tt → (m : Member) → Memᴰ m (all_members o b) → admits m ≡ true
 unfolding all_members
 all-admitted o b small e m i =
     let a = accepted o b e in

@@ -1,5 +1,5 @@
 -- The reader finds what the writer wrote, and accepts nothing else; so a member's bytes are no other member's.
-use Rattle.std.specs.Prelude.{if◌then◌else◌}
+use Rattle.std.specs.Prelude.{Result, if◌then◌else◌}
 use Prim.Native.Nat.{ℕ, ◌+◌, ◌*◌, ◌-◌, ◌/◌, ◌%◌, ◌≤◌, ◌<◌}
 use mathlib.Core.Path.{◌≡◌, refl, sym, ap, ◌∙◌}
 use mathlib.Core.Bool.{Bool, true, false, not}
@@ -15,9 +15,10 @@ use Rattle.wire.proofs.Bytes.{and-first, and-each, or-either, not-true, same-ref
 use Rattle.format.specs.Machines.{i386, armnt, amd64, arm64, arm64ec, arm64x, known}
 use Rattle.format.specs.Names.{stem}
 use Rattle.format.specs.Layouts.{Member, descriptor, null_descriptor, null_thunk, short, weak, import_header_size, dll_at, file_header, strings, null_name, thunk_name, descriptor_bytes, null_descriptor_bytes, null_thunk_bytes, import_header, short_bytes, weak_bytes, encode}
-use Rattle.format.specs.Reader.{between, admits_dll, admits_stem, admits_export, ordinary, admits, Reads, text_at, null_strings_at, thunk_strings_at, weak_strings_at, descriptor_guess, null_guess, thunk_guess, short_guess, weak_guess, guess, right, read, fields_or_refused, read_fields}
+use Rattle.format.specs.Reader.{between, admits_dll, admits_stem, admits_export, ordinary, admits, Reads, text_at, null_strings_at, thunk_strings_at, weak_strings_at, descriptor_guess, null_guess, thunk_guess, short_guess, weak_guess, guess, right, read, fields_or_refused, read_fields, names_answered}
 use Rattle.format.specs.Demands.{Demand2}
 use Rattle.format.specs.declared.Read.{Read}
+use Rattle.format.specs.declared.Refusal.{Refusal}
 use Rattle.laws.proofs.Lengths.{length-thunk_name, length-encode-descriptor}
 use Rattle.laws.proofs.Places.{drop-encode-descriptor-dll, drop-encode-null_descriptor, drop-encode-null_thunk, drop-encode-short, drop-encode-short-dll, drop-encode-short-exported, drop-encode-weak, drop-encode-weak-alias, fields-shown}
 
@@ -309,7 +310,7 @@ reads-once b m n r s = encode-injective m n r.admitted s.admitted (r.is ∙ sym 
 -- ---- demand 2: the reader's definition meets it, and no other answer does
 
 pub demand2 : (b : Bytes) → Demand2 b (read_fields b)
-unfolding read_fields fields_or_refused
+unfolding read_fields fields_or_refused names_answered
 demand2 b =
     record {
       accepts = λ m r. rw (read-complete b m r);
@@ -317,7 +318,7 @@ demand2 b =
       returns = λ m r. rw (read-complete b m r, ← r.is) (fields-shown m);
     }
 
-pub demand2-once : (b : Bytes) (r r' : Read) → Demand2 b r → Demand2 b r' → r ≡ r'
+pub demand2-once : (b : Bytes) (r r' : Result Read Refusal) → Demand2 b r → Demand2 b r' → r ≡ r'
 demand2-once b r r' d d' = pick (read b) refl
   where
     pick : (o : Option Member) → read b ≡ o → r ≡ r'

@@ -1,8 +1,8 @@
 -- A written set is valid, and its two lists are the two lists written.
-use Rattle.std.specs.Prelude.{if◌then◌else◌}
-use Prim.Native.Nat.{ℕ, suc, ◌+◌, ◌*◌, ◌-◌, ◌<◌}
+use Rattle.std.specs.Prelude.{Ok, if◌then◌else◌}
+use Prim.Native.Nat.{ℕ, suc, ◌+◌, ◌*◌, ◌<◌}
 use mathlib.Core.Path.{◌≡◌, refl, sym, ap, ◌∙◌}
-use mathlib.Core.Logic.{◌⊎◌, ⊎_elim}
+use mathlib.Core.Logic.{⊎_elim}
 use mathlib.Core.Bool.{Bool, true, false}
 use mathlib.Core.Option.{Option, none, some}
 use mathlib.Core.List.Memᴰ
@@ -23,7 +23,6 @@ use Rattle.format.specs.Reader.{admits, read}
 use Rattle.format.specs.Refusals.{check_exports}
 use Rattle.format.specs.Lookup.{Placed, offset_at, length_at, set_count, set_firsts, set_natives, back_to_back, laid_out, place_first, read_from, rank, ordered, if_ordered, read_set, list_of}
 use Rattle.format.specs.Demands.{ReadBack}
-use Rattle.format.specs.declared.Checked.TheVariants.{Fine}
 use Rattle.laws.proofs.ReadBack.{read-back}
 use Rattle.laws.proofs.Members.{all-admitted}
 use Rattle.laws.proofs.Totals.{length-directory, length-set_bytes, total-small}
@@ -264,28 +263,28 @@ module _ (o : Options) (b : Bytes) where
   first_place = first_member_at (3 + length (first_members o b) + length (native_members o b))
 
   -- a written set is valid, and is its members at their places
-  pub written-read : Octets b → check_exports o b ≡ Fine
+  pub written-read : Octets b → check_exports o b ≡ Ok tt
       → read_set (member_set o b) ≡ some (placed (first_member_at (3 + length (first_members o b) + length (native_members o b))) (all_members o b))
   unfolding member_set
   written-read small e =
       set-read (length (first_members o b)) (length (native_members o b)) (all_members o b) members-counted (total-small o b small e)
       (all-admitted o b small e) (members-ordered first_place)
 
-  pub written-laid : Octets b → check_exports o b ≡ Fine
+  pub written-laid : Octets b → check_exports o b ≡ Ok tt
       → Laid (member_set o b) 0 (first_member_at (3 + length (first_members o b) + length (native_members o b))) (all_members o b)
   unfolding member_set
   written-laid small e = set-laid (length (first_members o b)) (length (native_members o b)) (all_members o b) members-counted (total-small o b small e)
 
-  pub written-firsts : Octets b → check_exports o b ≡ Fine → set_firsts (member_set o b) ≡ length (first_members o b)
+  pub written-firsts : Octets b → check_exports o b ≡ Ok tt → set_firsts (member_set o b) ≡ length (first_members o b)
   unfolding member_set
   written-firsts small e = set-firsts (length (first_members o b)) (length (native_members o b)) (all_members o b) members-counted (total-small o b small e)
 
-  pub written-natives : Octets b → check_exports o b ≡ Fine → set_natives (member_set o b) ≡ length (native_members o b)
+  pub written-natives : Octets b → check_exports o b ≡ Ok tt → set_natives (member_set o b) ≡ length (native_members o b)
   unfolding member_set
   written-natives small e = set-natives (length (first_members o b)) (length (native_members o b)) (all_members o b) members-counted (total-small o b small e)
 
   -- the last half of demand 2
-  pub read_back : Octets b → check_exports o b ≡ Fine → ReadBack o b
+  pub read_back : Octets b → check_exports o b ≡ Ok tt → ReadBack o b
   read_back small e =
       record {
         back = λ m i. read-back m (all-admitted o b small e m i);
@@ -316,7 +315,7 @@ pub record Listed (set : Bytes) (number : ℕ) (ps : List Placed) (ms : List Mem
   pub members : map (λ (p : Placed). p.member) (list_of set number ps) ≡ ms
   pub stand : (p : Placed) → Memᴰ p (list_of set number ps) → Stands set p
 
-module _ (o : Options) (b : Bytes) (small : Octets b) (e : check_exports o b ≡ Fine) where
+module _ (o : Options) (b : Bytes) (small : Octets b) (e : check_exports o b ≡ Ok tt) where
   abbrev place : ℕ
   place = first_member_at (3 + length (first_members o b) + length (native_members o b))
 

@@ -1,8 +1,8 @@
 -- An accepted list's total is below 2^32, and so is every size and offset in it.
-use Rattle.std.specs.Prelude.{if◌then◌else◌}
-use Prim.Native.Nat.{ℕ, zero, suc, ◌+◌, ◌*◌, ◌-◌, ◌≤◌, ◌<◌}
+use Rattle.std.specs.Prelude.{Ok, if◌then◌else◌}
+use Prim.Native.Nat.{ℕ, zero, suc, ◌+◌, ◌*◌, ◌≤◌, ◌<◌}
 use mathlib.Core.Path.{◌≡◌, refl}
-use mathlib.Core.Logic.{◌⊎◌, ⊎_elim}
+use mathlib.Core.Logic.{⊎_elim}
 use mathlib.Core.Bool.{Bool, true, false, not}
 use mathlib.Core.Option.{Option, none, some}
 use mathlib.Core.List.Memᴰ
@@ -21,7 +21,6 @@ use Rattle.format.specs.Layouts.{Member, descriptor, null_descriptor, null_thunk
 use Rattle.format.specs.Reader.{between, admits_dll, admits_stem, admits_export, ordinary, admits}
 use Rattle.format.specs.Library.{Options, imp, final, last_answering, short_member, alias_members, alias_or_short, deferred_member, shorts, deferreds, members_of, fixed_members, first_members, native_members, all_members, first_member_at, directory, set_bytes, member_set}
 use Rattle.format.specs.Refusals.{check_exports}
-use Rattle.format.specs.declared.Checked.TheVariants.{Fine}
 use Rattle.laws.proofs.Accepted.{Accepted, accepted, exports-few}
 use Rattle.laws.proofs.Lengths.{length-encode-descriptor, length-encode-null_descriptor-none, length-encode-null_descriptor-some, length-encode-null_thunk, length-encode-short, length-encode-weak}
 use Rattle.laws.proofs.ReadBack.{between-true, export-true}
@@ -180,7 +179,7 @@ mapped (m ∷ ms) x P h i =
     ⊎_elim (λ e. rw e (h m (Memᴰ.head refl))) (λ j. mapped ms x P (λ n k. h n (Memᴰ.tail k)) j) (Memᴰ.cases_cons i)
 
 -- all members of an accepted list, and their bytes
-pub members-small : (o : Options) (b : Bytes) → Octets b → check_exports o b ≡ Fine
+pub members-small : (o : Options) (b : Bytes) → Octets b → check_exports o b ≡ Ok tt
     → (length (all_members o b) ≤ 16387) × (length (join (map encode (all_members o b))) ≤ max_member * 16387)
 members-small o b small e =
     let ms = map encode (all_members o b) in
@@ -189,7 +188,7 @@ members-small o b small e =
     length-join-few max_member ms (λ x i. mapped (all_members o b) x (λ (y : Bytes). length y ≤ max_member) (λ m j. member-small m (all-admitted o b small e m j)) i) in
     (few, omega (arith, long, length-map (all_members o b) encode))
 
-pub total-small : (o : Options) (b : Bytes) → Octets b → check_exports o b ≡ Fine → length (member_set o b) < 4294967296
+pub total-small : (o : Options) (b : Bytes) → Octets b → check_exports o b ≡ Ok tt → length (member_set o b) < 4294967296
 unfolding member_set
 total-small o b small e =
     let (few, long) = members-small o b small e in

@@ -1,4 +1,5 @@
-// Runs of records of one kind. Each is written as far as out goes, and nothing else; the next place is returned.
+// Runs of records of one kind. Each is written as far as out goes, and nothing else; the next place is returned. It is kept by
+// whoever calls, and in no struct with out: strings are written before the symbols that stand before them.
 ghost use Rattle.wire.specs.Writes.{Wrote};
 ghost use Rattle.format.specs.Layouts.{symbol, long_name};
 ghost use Rattle.layout.specs.Runs.{Parts, descriptor_sections, relocations, descriptor_data, descriptor_symbols, weak_symbols};

@@ -48,25 +48,32 @@ fn put_descriptor_name(out: &mut [u8], at: usize, stem: &[u8]) -> usize
     put_pieces(out, at, &IMPORT_DESCRIPTOR_PREFIX, stem)
 }
 
-// The name of a null import descriptor, which ends in the stem under compat.
+// The name of a null import descriptor in two pieces: it ends in the stem under compat.
+fn null_name_pieces(stem: &[u8], compat: bool) -> (&[u8], &[u8])
+    ensures value { null_name (compat_stem compat stem.now) ≡ result.0.now ++ result.1.now }
+    ensures bound { (length result.0.now ≤ 25) × (length result.1.now ≤ length stem.now) }
+{
+    if compat {
+        return (&NULL_IMPORT_DESCRIPTOR_SYMBOL_NAME_PREFIX, stem);
+    }
+    (&NULL_IMPORT_DESCRIPTOR_SYMBOL_NAME, b"")
+}
+
+// That name.
 fn put_null_name(out: &mut [u8], at: usize, stem: &[u8], compat: bool) -> usize
     ensures { Strings out.old at (null_name (compat_stem compat stem.now) ∷ []) out.new result }
 {
-    if compat {
-        return put_pieces(out, at, &NULL_IMPORT_DESCRIPTOR_SYMBOL_NAME_PREFIX, stem);
-    }
-    put_string(out, at, &NULL_IMPORT_DESCRIPTOR_SYMBOL_NAME)
+    let (head, tail) = null_name_pieces(stem, compat);
+    put_pieces(out, at, head, tail)
 }
 
-// How long that name is.
+// How long it is.
 pub fn null_name_len(stem: &[u8], compat: bool) -> usize
     requires { length stem.now ≤ 255 }
     ensures { (result ≡ length (null_name (compat_stem compat stem.now))) × (result ≤ 280) }
 {
-    if compat {
-        return NULL_IMPORT_DESCRIPTOR_SYMBOL_NAME_PREFIX.len() + stem.len();
-    }
-    NULL_IMPORT_DESCRIPTOR_SYMBOL_NAME.len()
+    let (head, tail) = null_name_pieces(stem, compat);
+    head.len() + tail.len()
 }
 
 // The name of a null thunk.
@@ -79,7 +86,8 @@ fn put_thunk_name(out: &mut [u8], at: usize, stem: &[u8]) -> usize
 
 // ---- string tables
 
-// A table that was written: the place after it, and where each of its strings begins in it.
+// A table that was written: the place after it, and where each of its strings begins in it. A struct for each names them; a
+// list of places for all would have to be read by number.
 #[derive(Clone, Copy)]
 pub struct DescriptorTable {
     pub next: usize,

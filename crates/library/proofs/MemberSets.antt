@@ -1,4 +1,5 @@
 -- The member set: all members drawn, the header before them, and the writer's answer.
+use Rattle.std.specs.Prelude.{Ok, Err}
 use Prim.Native.Nat.{ℕ, ◌+◌, ◌-◌, ◌/◌, ◌≤◌, ◌<◌}
 use mathlib.Core.Path.{◌≡◌, refl, sym, ap, ap₂, ◌∙◌}
 use mathlib.Core.Bool.{Bool}
@@ -16,37 +17,30 @@ use Rattle.format.specs.Machines.{first_machine, native_machine}
 use Rattle.format.specs.Exports.{first_count, native_count, both_counts, names_at, dll_field, offset_of, length_of, bytes_at, dll_name, exports_from, first_exports, native_exports}
 use Rattle.format.specs.Layouts.{Member, encode}
 use Rattle.format.specs.Library.{Options, set_header_size, first_member_at, directory, members_of, fixed_members, first_members, native_members, all_members, set_bytes, member_set}
-use Rattle.format.specs.Refusals.{Row, row, earliest, table_slots, own_rows, check_list, check_exports}
-use Rattle.format.specs.Answers.{total, asked, unless, written, leaves, output_after, written_number, Writes}
-use Rattle.format.specs.declared.Checked.{Checked}
-use Rattle.format.specs.declared.Checked.TheVariants.{Fine, Refused}
+use Rattle.format.specs.Refusals.{Checked, refusal, Row, row, earliest, table_slots, own_rows, check_list, check_exports}
+use Rattle.format.specs.Answers.{Written, total, asked, unless, written, leaves, output_after, answer_number, Writes}
 use Rattle.format.specs.Asking.{TotalIs}
-use Rattle.format.specs.declared.Written.{Written}
-use Rattle.format.specs.declared.Written.TheVariants as W
+use Rattle.format.specs.declared.Reason.TheVariants.{NoRoom, FewSlots}
+use Rattle.format.specs.declared.Refusal.{Refusal}
 use Rattle.format.proofs.Rows.{earliest-given, earliest-passed, earliest-none}
 use Rattle.format.proofs.Listed.{listed, dll-few, dll-inside}
 use Rattle.laws.proofs.Accepted.{accepted}
 use Rattle.laws.proofs.Refusals.{accepted-own}
 use Rattle.laws.proofs.Asking.{split}
 use Rattle.laws.proofs.Totals.{first-few, native-few, members-small, length-directory, length-set_bytes}
-use Rattle.coff.specs.Machines.{IsMachine}
-use Rattle.coff.specs.declared.machines.Machine.{Machine}
 use Rattle.walks.specs.Pen.{Room, Drew, fixed_of}
-use Rattle.library.specs.declared.Accepted.{Accepted}
-use Rattle.library.specs.declared.Accepted.TheVariants.{By}
-use Rattle.library.specs.declared.Accepted.TheVariants as A
-use Rattle.library.specs.Sets.{AcceptedAs, taken, refused, members_by, DrewBy, DrewAll, farthest, Measured, header_bytes}
+use Rattle.library.specs.Sets.{members_by, DrewBy, DrewAll, farthest, Measured, header_bytes}
 use Rattle.walks.proofs.Pens.{room-as, room-first, room-next, drew-as, drew-more, drew-length}
 
 -- ---- the fixed members, the first list, the native list
 
-pub counts-small : (b : Bytes) {first native : ℕ} → check_list b ≡ Fine → first ≡ first_count b → native ≡ native_count b → (first ≤ 4096) × (native ≤ 4096) × (first + native ≡ both_counts b)
+pub counts-small : (b : Bytes) {first native : ℕ} → check_list b ≡ Ok tt → first ≡ first_count b → native ≡ native_count b → (first ≤ 4096) × (native ≤ 4096) × (first + native ≡ both_counts b)
 counts-small b e f g = let l = listed b e in (omega (arith, l.shape.firsts), omega (arith, l.shape.natives), omega (arith, f, g))
 
-pub both-small : (b : Bytes) → check_list b ≡ Fine → both_counts b ≤ 8192
+pub both-small : (b : Bytes) → check_list b ≡ Ok tt → both_counts b ≤ 8192
 both-small b e = let l = listed b e in omega (arith, l.shape.firsts, l.shape.natives)
 
-pub dll-small : (b : Bytes) {s : Bytes} → check_list b ≡ Fine → s ≡ dll_name b → length s ≤ 255
+pub dll-small : (b : Bytes) {s : Bytes} → check_list b ≡ Ok tt → s ≡ dll_name b → length s ≤ 255
 unfolding bytes_at
 dll-small b {s} e f =
     let l = listed b e in
@@ -158,7 +152,7 @@ unfolding all_members fixed_members
 count-all o b =
     omega (arith, length-append (fixed_members o b ++ first_members o b) (native_members o b), length-append (fixed_members o b) (first_members o b))
 
-module _ (o : Options) (b : Bytes) (small : Octets b) (e : check_exports o b ≡ Fine) where
+module _ (o : Options) (b : Bytes) (small : Octets b) (e : check_exports o b ≡ Ok tt) where
   pub far-room : Room set_header_size farthest (all_members o b)
   far-room = let (few, long) = members-small o b small e in record { apart = omega arith; small = omega arith }
 
@@ -215,89 +209,74 @@ module _ (o : Options) (b : Bytes) (small : Octets b) (e : check_exports o b ≡
       pub set-written : l₂ ≡ member_set o b ++ drop (length (member_set o b)) l
       set-written = laid ∙ over-exact 0 (member_set o b) l (omega (arith, fits)) ∙ ap (λ (k : ℕ). member_set o b ++ drop k l) (sym (zero-more (length (member_set o b))))
 
--- ---- a list that was accepted, or not
-
-module _ {o : Options} {b : Bytes} where
-  pub accepted-by : {r : Accepted} {m : Machine} → r ≡ By m → AcceptedAs o b r → (check_exports o b ≡ Fine) × (m.number ≡ o.machine) × IsMachine m
-  accepted-by e a = told (rw e at a)
-    where
-      told : {m : Machine} → AcceptedAs o b (By m) → (check_exports o b ≡ Fine) × (m.number ≡ o.machine) × IsMachine m
-      told (taken f n is) = (f, n, is)
-
-  pub refused-by : {r : Accepted} {number place : ℕ} → r ≡ A.Refused number place → AcceptedAs o b r → check_exports o b ≡ Refused number place
-  refused-by e a = told (rw e at a)
-    where
-      told : {number place : ℕ} → AcceptedAs o b (A.Refused number place) → check_exports o b ≡ Refused number place
-      told (refused f) = f
-
 -- ---- what asking and writing answer
 
 module _ (o : Options) (b : Bytes) where
-  pub asked-stop : (number place : ℕ) → check_exports o b ≡ Refused number place → W.Refused number place ≡ asked o b
+  pub asked-stop : (r : Refusal) → check_exports o b ≡ Err r → Err r ≡ asked o b
   unfolding asked total
-  asked-stop number place e = rw e
+  asked-stop r e = rw e
 
-  pub asked-total : {t : ℕ} → check_exports o b ≡ Fine → t ≡ length (member_set o b) → W.Total t ≡ asked o b
+  pub asked-total : {t : ℕ} → check_exports o b ≡ Ok tt → t ≡ length (member_set o b) → Ok t ≡ asked o b
   unfolding asked total
   asked-total e t = rw (e, t)
 
 module _ (o : Options) (b : Bytes) (slots : ℕ) (out : Bytes) where
-  pub written-stop : (number place : ℕ) → check_exports o b ≡ Refused number place → (W.Refused number place ≡ written o b slots (length out)) × (out ≡ output_after o b slots out)
+  pub written-stop : (r : Refusal) → check_exports o b ≡ Err r → (Err r ≡ written o b slots (length out)) × (out ≡ output_after o b slots out)
   unfolding written asked unless total output_after leaves
-  written-stop number place e = (rw e, rw e)
+  written-stop r e = (rw e, rw e)
 
-  module _ (e : check_exports o b ≡ Fine) where
+  module _ (e : check_exports o b ≡ Ok tt) where
     abbrev slot-row : Row
-    slot-row = row 19 0 (ltb slots table_slots)
+    slot-row = row FewSlots 0 (ltb slots table_slots)
 
     abbrev room-row : Row
-    room-row = row 15 0 (ltb (length out) (length (member_set o b)))
+    room-row = row NoRoom 0 (ltb (length out) (length (member_set o b)))
 
     by-own : {c : Checked} → earliest (slot-row ∷ room-row ∷ []) ≡ c → written o b slots (length out) ≡ total c (length (member_set o b))
     unfolding own_rows
     by-own f = accepted-own o b slots (length out) e ∙ ap (λ (c : Checked). total c (length (member_set o b))) f
 
-    pub written-19 : slots < table_slots → (W.Refused 19 0 ≡ written o b slots (length out)) × (out ≡ output_after o b slots out)
+    pub written-19 : slots < table_slots → (Err (refusal FewSlots 0) ≡ written o b slots (length out)) × (out ≡ output_after o b slots out)
     unfolding total output_after leaves
     written-19 h =
-        let stops : written o b slots (length out) ≡ W.Refused 19 0 = by-own (earliest-given slot-row (room-row ∷ []) (lt-ltb slots table_slots h)) in
+        let stops : written o b slots (length out) ≡ Err (refusal FewSlots 0) = by-own (earliest-given slot-row (room-row ∷ []) (lt-ltb slots table_slots h)) in
         (sym stops, rw stops)
 
     module _ (enough : table_slots ≤ slots) where
       by-room : {c : Checked} → earliest (room-row ∷ []) ≡ c → written o b slots (length out) ≡ total c (length (member_set o b))
       by-room f = by-own (earliest-passed slot-row (room-row ∷ []) (le-ltb slots table_slots enough) ∙ f)
 
-      pub written-15 : length out < length (member_set o b) → (W.Refused 15 0 ≡ written o b slots (length out)) × (out ≡ output_after o b slots out)
+      pub written-15 : length out < length (member_set o b) → (Err (refusal NoRoom 0) ≡ written o b slots (length out)) × (out ≡ output_after o b slots out)
       unfolding total output_after leaves
       written-15 h =
-          let stops : written o b slots (length out) ≡ W.Refused 15 0 = by-room (earliest-given room-row [] (lt-ltb (length out) (length (member_set o b)) h)) in
+          let stops : written o b slots (length out) ≡ Err (refusal NoRoom 0) = by-room (earliest-given room-row [] (lt-ltb (length out) (length (member_set o b)) h)) in
           (sym stops, rw stops)
 
       pub written-total : {t : ℕ} {l : Bytes} → length (member_set o b) ≤ length out → t ≡ length (member_set o b) → l ≡ member_set o b ++ drop (length (member_set o b)) out
-          → (W.Total t ≡ written o b slots (length out)) × (l ≡ output_after o b slots out)
+          → (Ok t ≡ written o b slots (length out)) × (l ≡ output_after o b slots out)
       unfolding total output_after leaves
       written-total h t l =
-          let fine : written o b slots (length out) ≡ W.Total (length (member_set o b)) = by-room (earliest-passed room-row [] (le-ltb (length out) (length (member_set o b)) h) ∙ earliest-none) in
-          (ap W.Total t ∙ sym fine, rw fine l)
+          let fine : written o b slots (length out) ≡ Ok (length (member_set o b)) = by-room (earliest-passed room-row [] (le-ltb (length out) (length (member_set o b)) h) ∙ earliest-none) in
+          (ap Ok t ∙ sym fine, rw fine l)
 
 -- any table that is large enough is as good as another
 enough-slots : (o : Options) (b : Bytes) (slots room : ℕ) → table_slots ≤ slots → written o b table_slots room ≡ written o b slots room
 unfolding written own_rows
 enough-slots o b slots room h = rw (le-ltb slots table_slots h)
 
-never-19 : (o : Options) (b : Bytes) (room : ℕ) → written_number (written o b table_slots room) ≡ 19 → ⊥
+never-19 : (o : Options) (b : Bytes) (room : ℕ) → answer_number (written o b table_slots room) ≡ 19 → ⊥
 never-19 o b room e = pick (asked o b) ((split o b table_slots room).few e)
   where
     pick : (r : Written) → TotalIs (λ n. table_slots < table_slots) r → ⊥
-    pick (W.Total n) h = absurd (omega (arith, h))
-    pick (W.Refused number place) h = h
+    pick (Ok n) h = absurd (omega (arith, h))
+    pick (Err r) h = h
 
 module _ {A : Type 0} (o : Options) (b : Bytes) {slots slots' : List A} {out out' : Bytes} {r : Written} where
-  pub writes-by : r ≡ written o b (length slots) (length out) → out' ≡ output_after o b (length slots) out → (written_number r ≡ 19 → slots' ≡ slots) → Writes o b slots out r slots' out'
+  pub writes-by : r ≡ written o b (length slots) (length out) → out' ≡ output_after o b (length slots) out → (answer_number r ≡ 19 → slots' ≡ slots) → Writes o b slots out r slots' out'
   writes-by e f g = record { answers = e; output = f; table = g }
 
   pub enough-writes : table_slots ≤ length slots → r ≡ written o b table_slots (length out) → out' ≡ output_after o b table_slots out → Writes o b slots out r slots' out'
   unfolding output_after
   enough-writes h e f =
       let same = enough-slots o b (length slots) (length out) h in
-      writes-by (e ∙ same) (f ∙ ap (λ (w : Written). leaves w (member_set o b) out) same) (λ n. absurd (never-19 o b (length out) (ap written_number (sym e) ∙ n)))
+      writes-by (e ∙ same) (f ∙ ap (λ (w : Written). leaves w (member_set o b) out) same) (λ n. absurd (never-19 o b (length out) (ap answer_number (sym e) ∙ n)))

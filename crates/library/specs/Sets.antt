@@ -1,23 +1,12 @@
--- Lists that are accepted; all members of a library, by the machines of the two lists; and what drawing them tells.
+-- All members of a library, by the machines of the two lists; and what drawing them tells.
 use Rattle.std.specs.Prelude.{ℕ, ◌+◌, ◌*◌, ◌≡◌, Bool, List, map, ◌++◌, length}
 use Rattle.wire.specs.Bytes.{Bytes, le32, join}
 use Rattle.format.specs.Machines.{arm64ec, first_machine, native_machine}
 use Rattle.format.specs.Exports.{first_count, native_count, first_exports, native_exports}
 use Rattle.format.specs.Layouts.{Member, encode}
 use Rattle.format.specs.Library.{Options, set_header_size, entry_size, members_of, first_members, native_members, all_members}
-use Rattle.format.specs.Refusals.{check_exports}
-use Rattle.format.specs.declared.Checked.TheVariants as C
-use Rattle.coff.specs.Machines.{IsMachine}
-use Rattle.coff.specs.declared.machines.Machine.{Machine}
 use Rattle.keys.specs.Targets.{Resolved}
 use Rattle.walks.specs.Pen.{Drew, fixed_of}
-use Rattle.library.specs.declared.Accepted.{Accepted}
-use Rattle.library.specs.declared.Accepted.TheVariants.{By, Refused}
-
--- a list that is accepted, with its machine; or its refusal from 1 to 14
-pub data AcceptedAs (o : Options) (b : Bytes) : Accepted → Type 0 where
-  taken : {m : Machine} → check_exports o b ≡ C.Fine → m.number ≡ o.machine → IsMachine m → AcceptedAs o b (By m)
-  refused : {number place : ℕ} → check_exports o b ≡ C.Refused number place → AcceptedAs o b (Refused number place)
 
 -- the aliases of both lists were resolved; on ARM64EC there are none
 pub record ResolvedBy (first native : ℕ) (mingw : Bool) (b : Bytes) (targets : List ℕ) : Type 0 where

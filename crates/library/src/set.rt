@@ -1,10 +1,9 @@
 // The member set: the three fixed members, both lists, the directory and the header.
-ghost use Rattle.std.specs.Prelude.{◌≡◌, [], ◌+◌, ◌-◌, ◌≤◌, ◌<◌, length};
+ghost use Rattle.std.specs.Prelude.{◌≡◌, [], ◌+◌, ◌-◌, ◌≤◌, ◌<◌, length, Ok};
 ghost use Rattle.wire.specs.Writes.{Wrote};
 ghost use Rattle.format.specs.Library.{all_members, member_set};
 ghost use Rattle.format.specs.Refusals.{check_list, check_exports, table_slots};
 ghost use Rattle.format.specs.Answers.{written, output_after, Writes};
-ghost use Rattle.format.specs.declared.Checked.TheVariants.{Fine};
 ghost use Rattle.coff.specs.Machines.{IsMachine};
 ghost use Rattle.walks.specs.Pen.{entry_of, at_of, Room};
 ghost use Rattle.library.specs.Sets.{ResolvedBy, ResolvedAll, members_by, DrewBy, DrewAll, farthest, Measured, header_bytes};
@@ -12,7 +11,7 @@ ghost use Rattle.library.specs.Sets.{ResolvedBy, ResolvedAll, members_by, DrewBy
 use crate::aliases::{MAX_EXPORTS, has_wanted, resolve_all};
 use coff::machines;
 use coff::machines::Machine;
-use format::Written;
+use format::{Reason, Refusal};
 use keys::Row;
 use layout::places::{ENTRY_SIZE, FIXED_MEMBERS, SET_HEADER_SIZE};
 use lists::record;
@@ -46,7 +45,7 @@ fn draw_members(
     targets: &[u16],
 ) -> Drawn
     requires room { Room (entry_of pen) (at_of pen) (members_by first native.number mingw compat dll.now b.now) }
-    requires b_value { check_list b.now ≡ Fine }
+    requires b_value { check_list b.now ≡ Ok tt }
     requires machine { IsMachine native }
     requires dll_len_bound { length dll.now ≤ 255 }
     requires resolved_by { ResolvedBy first native.number mingw b.now targets.now }
@@ -86,7 +85,7 @@ fn draw_all(
     targets: &[u16],
 ) -> Drawn
     requires room { Room (entry_of pen) (at_of pen) (all_members (record { machine = machine.number; mingw = mingw; compat = compat }) b.now) }
-    requires b_value { check_list b.now ≡ Fine }
+    requires b_value { check_list b.now ≡ Ok tt }
     requires machine { IsMachine machine }
     requires resolved_all { ResolvedAll machine.number mingw b.now targets.now }
     ensures { DrewAll (record { machine = machine.number; mingw = mingw; compat = compat }) b.now out.old (entry_of pen) (at_of pen) out.new (entry_of result.pen) (at_of result.pen) result.firsts result.natives }
@@ -116,7 +115,7 @@ fn measure(
     targets: &[u16],
 ) -> Drawn
     requires none_len { length none.old ≡ 0 }
-    requires b_value { check_exports (record { machine = machine.number; mingw = mingw; compat = compat }) b.now ≡ Fine }
+    requires b_value { check_exports (record { machine = machine.number; mingw = mingw; compat = compat }) b.now ≡ Ok tt }
     requires machine { IsMachine machine }
     requires resolved_all { ResolvedAll machine.number mingw b.now targets.now }
     ensures { (none.new ≡ []) × Measured (record { machine = machine.number; mingw = mingw; compat = compat }) b.now (entry_of result.pen) (at_of result.pen) result.firsts result.natives }
@@ -135,7 +134,7 @@ fn total_of(pen: u64) -> usize
 
 // The total of the set of an accepted list whose aliases were resolved.
 fn total_resolved(b: &[u8], machine: Machine, mingw: bool, compat: bool, targets: &[u16]) -> usize
-    requires b_value { check_exports (record { machine = machine.number; mingw = mingw; compat = compat }) b.now ≡ Fine }
+    requires b_value { check_exports (record { machine = machine.number; mingw = mingw; compat = compat }) b.now ≡ Ok tt }
     requires machine { IsMachine machine }
     requires resolved_all { ResolvedAll machine.number mingw b.now targets.now }
     ensures { result ≡ length (member_set (record { machine = machine.number; mingw = mingw; compat = compat }) b.now) }
@@ -147,7 +146,7 @@ fn total_resolved(b: &[u8], machine: Machine, mingw: bool, compat: bool, targets
 
 // The total of the set of an accepted list with aliases, resolved in a table of its own.
 fn total_aliased(b: &[u8], machine: Machine, mingw: bool, compat: bool) -> usize
-    requires b_value { check_exports (record { machine = machine.number; mingw = mingw; compat = compat }) b.now ≡ Fine }
+    requires b_value { check_exports (record { machine = machine.number; mingw = mingw; compat = compat }) b.now ≡ Ok tt }
     requires machine { IsMachine machine }
     ensures { result ≡ length (member_set (record { machine = machine.number; mingw = mingw; compat = compat }) b.now) }
 {
@@ -159,7 +158,7 @@ fn total_aliased(b: &[u8], machine: Machine, mingw: bool, compat: bool) -> usize
 
 // The total of the set of an accepted list. A table is made only where an alias may be looked for.
 pub fn total_accepted(b: &[u8], machine: Machine, mingw: bool, compat: bool) -> usize
-    requires b_value { check_exports (record { machine = machine.number; mingw = mingw; compat = compat }) b.now ≡ Fine }
+    requires b_value { check_exports (record { machine = machine.number; mingw = mingw; compat = compat }) b.now ≡ Ok tt }
     requires machine { IsMachine machine }
     ensures { result ≡ length (member_set (record { machine = machine.number; mingw = mingw; compat = compat }) b.now) }
 {
@@ -189,8 +188,8 @@ fn write_resolved(
     compat: bool,
     targets: &[u16],
     out: &mut [u8],
-) -> Written
-    requires b_value { check_exports (record { machine = machine.number; mingw = mingw; compat = compat }) b.now ≡ Fine }
+) -> Result<usize, Refusal>
+    requires b_value { check_exports (record { machine = machine.number; mingw = mingw; compat = compat }) b.now ≡ Ok tt }
     requires machine { IsMachine machine }
     requires resolved_all { ResolvedAll machine.number mingw b.now targets.now }
     ensures { (result ≡ written (record { machine = machine.number; mingw = mingw; compat = compat }) b.now table_slots (length out.old)) × (out.new ≡ output_after (record { machine = machine.number; mingw = mingw; compat = compat }) b.now table_slots out.old) }
@@ -200,15 +199,12 @@ fn write_resolved(
     let first_at = entry_of(size.pen);
     let total = total_of(size.pen);
     if room < total {
-        return Written::Refused {
-            number: 15,
-            place: 0,
-        };
+        return Err(Reason::NoRoom.at(0));
     }
     let pen = pen_at(SET_HEADER_SIZE, first_at);
     draw_all(out, pen, b, machine, mingw, compat, targets);
     put_header(out, size.firsts, size.natives, first_at);
-    Written::Total(total)
+    Ok(total)
 }
 
 // The set of an accepted list with aliases, resolved in the lent table.
@@ -219,8 +215,8 @@ fn write_aliased(
     compat: bool,
     slots: &mut [Row],
     out: &mut [u8],
-) -> Written
-    requires b_value { check_exports (record { machine = machine.number; mingw = mingw; compat = compat }) b.now ≡ Fine }
+) -> Result<usize, Refusal>
+    requires b_value { check_exports (record { machine = machine.number; mingw = mingw; compat = compat }) b.now ≡ Ok tt }
     requires machine { IsMachine machine }
     requires table_slots_in_bounds { table_slots ≤ length slots.old }
     ensures { (result ≡ written (record { machine = machine.number; mingw = mingw; compat = compat }) b.now table_slots (length out.old)) × (out.new ≡ output_after (record { machine = machine.number; mingw = mingw; compat = compat }) b.now table_slots out.old) }
@@ -238,16 +234,13 @@ pub fn write_accepted(
     compat: bool,
     slots: &mut [Row],
     out: &mut [u8],
-) -> Written
-    requires b_value { check_exports (record { machine = machine.number; mingw = mingw; compat = compat }) b.now ≡ Fine }
+) -> Result<usize, Refusal>
+    requires b_value { check_exports (record { machine = machine.number; mingw = mingw; compat = compat }) b.now ≡ Ok tt }
     requires machine { IsMachine machine }
     ensures { Writes (record { machine = machine.number; mingw = mingw; compat = compat }) b.now slots.old out.old result slots.new out.new }
 {
     if slots.len() < keys::SLOTS {
-        return Written::Refused {
-            number: 19,
-            place: 0,
-        };
+        return Err(Reason::FewSlots.at(0));
     }
     if has_wanted(b) {
         return write_aliased(b, machine, mingw, compat, slots, out);

@@ -1,4 +1,5 @@
 -- Laws of a record's fields, by the places that code computes; and that a checked list holds its records.
+use Rattle.std.specs.Prelude.{Ok}
 use Prim.Native.Nat.{ℕ, ◌+◌, ◌≤◌, ◌<◌}
 use mathlib.Core.Path.{◌≡◌, sym, ap, ◌∙◌}
 use mathlib.Core.Bool.{Bool, true, false, not}
@@ -13,7 +14,6 @@ use Rattle.format.specs.Exports.{names_at, names_length, both_counts, offset_of,
 use Rattle.format.specs.Plan.{base}
 use Rattle.format.specs.Refusals.{check_list}
 use Rattle.format.specs.Shaped.{Shaped}
-use Rattle.format.specs.declared.Checked.TheVariants.{Fine}
 use Rattle.format.proofs.Listed.{listed, record-inside, names-inside, field-few, field-named, field-inside}
 use Rattle.lists.specs.Held.{Held, is_clean}
 
@@ -60,7 +60,7 @@ base-symbol b k e = rw e
 
 -- ---- a checked list holds its records
 
-pub held : (b : Bytes) (k : ℕ) → check_list b ≡ Fine → k < both_counts b → Held b k
+pub held : (b : Bytes) (k : ℕ) → check_list b ≡ Ok tt → k < both_counts b → Held b k
 held b k e h =
     let l = listed b e in
     record {

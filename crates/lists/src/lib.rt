@@ -10,7 +10,7 @@ ghost use Rattle.format.specs.Refusals.{earliest, header_rows, string_rows, dll_
 ghost use Rattle.format.specs.Shaped.{Shaped};
 ghost use Rattle.lists.specs.Held.{is_clean};
 
-use format::Checked;
+use format::{Reason, Refusal};
 
 // The sizes of the list's header and of a record, and the limits.
 pub const HEADER_SIZE: usize = 28;
@@ -52,7 +52,14 @@ fn held_in(b: &[u8], from: usize, n: usize, c: u8) -> bool
 }
 
 // One string's checks 5 to 8. Its offset and length stand at `at`. Where the names are clean, no string holds NUL.
-fn check_string(b: &[u8], place: u32, at: usize, limit: u32, required: bool, clean: bool) -> Checked
+fn check_string(
+    b: &[u8],
+    place: u32,
+    at: usize,
+    limit: u32,
+    required: bool,
+    clean: bool,
+) -> Result<(), Refusal>
     requires shaped { Shaped b.now }
     requires at_in_bounds { at + 8 ≤ length b.now }
     requires clean_value { clean ≡ is_clean b.now }
@@ -63,31 +70,31 @@ fn check_string(b: &[u8], place: u32, at: usize, limit: u32, required: bool, cle
     let offset = wire::u32_at(b, at) as usize;
     let len = wire::u32_at(b, at + 4) as usize;
     if total < offset + len {
-        return Checked::Refused { number: 5, place };
+        return Err(Reason::OutsideNames.at(place));
     }
     if len == 0 {
         if offset == 0 {
             if required {
-                return Checked::Refused { number: 6, place };
+                return Err(Reason::EmptyString.at(place));
             }
-            return Checked::Fine;
+            return Ok(());
         }
-        return Checked::Refused { number: 6, place };
+        return Err(Reason::EmptyString.at(place));
     }
     if (limit as usize) < len {
-        return Checked::Refused { number: 7, place };
+        return Err(Reason::TooLong.at(place));
     }
     if clean {
-        return Checked::Fine;
+        return Ok(());
     }
     if held_in(b, names + offset, len, 0) {
-        return Checked::Refused { number: 8, place };
+        return Err(Reason::HasNul.at(place));
     }
-    Checked::Fine
+    Ok(())
 }
 
 // Checks 5 to 8 of one of a record's five strings; only the name is required.
-fn check_field(b: &[u8], k: u32, f: usize, clean: bool) -> Checked
+fn check_field(b: &[u8], k: u32, f: usize, clean: bool) -> Result<(), Refusal>
     requires shaped { Shaped b.now }
     requires k_bound { (k < both_counts b.now) × (f < 5) }
     requires clean_value { clean ≡ is_clean b.now }
@@ -104,123 +111,86 @@ fn check_field(b: &[u8], k: u32, f: usize, clean: bool) -> Checked
 }
 
 // Checks 5 to 8 of a record's strings, in field order.
-fn check_fields(b: &[u8], k: u32, clean: bool) -> Checked
+fn check_fields(b: &[u8], k: u32, clean: bool) -> Result<(), Refusal>
     requires shaped { Shaped b.now }
     requires k_bound { k < both_counts b.now }
     requires clean_value { clean ≡ is_clean b.now }
     ensures { result ≡ earliest (rows_from (field_rows b.now k) 0 5) }
 {
-    let mut f = 0;
-    while f < STRINGS {
-        let checked = check_field(b, k, f, clean);
-        if let Checked::Refused { number, place } = checked {
-            return Checked::Refused { number, place };
-        }
-        f += 1;
+    for f in 0..STRINGS {
+        check_field(b, k, f, clean)?;
     }
-    Checked::Fine
+    Ok(())
 }
 
 // Check 9 of a record, then those of its strings.
-fn check_record(b: &[u8], k: u32, clean: bool) -> Checked
+fn check_record(b: &[u8], k: u32, clean: bool) -> Result<(), Refusal>
     requires shaped { Shaped b.now }
     requires k_bound { k < both_counts b.now }
     requires clean_value { clean ≡ is_clean b.now }
     ensures { result ≡ earliest (record_rows b.now k) }
 {
     if ALL_FLAGS < wire::u16_at(b, HEADER_SIZE + RECORD_SIZE * (k as usize) + FLAGS_AT) {
-        return Checked::Refused {
-            number: 9,
-            place: k,
-        };
+        return Err(Reason::UnknownFlag.at(k));
     }
     check_fields(b, k, clean)
 }
 
 // The checks of every record, in order.
-fn check_records(b: &[u8], count: u32, clean: bool) -> Checked
+fn check_records(b: &[u8], count: u32, clean: bool) -> Result<(), Refusal>
     requires shaped { Shaped b.now }
     requires count_value { count ≡ both_counts b.now }
     requires clean_value { clean ≡ is_clean b.now }
     ensures { result ≡ earliest (rows_from (record_rows b.now) 0 count) }
 {
-    let mut k = 0;
-    while k < count {
-        let checked = check_record(b, k, clean);
-        if let Checked::Refused { number, place } = checked {
-            return Checked::Refused { number, place };
-        }
-        k += 1;
+    for k in 0..count {
+        check_record(b, k, clean)?;
     }
-    Checked::Fine
+    Ok(())
 }
 
 // Checks 2 to 4.
-fn check_header(b: &[u8]) -> Checked
+fn check_header(b: &[u8]) -> Result<(), Refusal>
     ensures { result ≡ earliest (header_rows b.now) }
 {
     if b.len() < HEADER_SIZE {
-        return Checked::Refused {
-            number: 2,
-            place: 0,
-        };
+        return Err(Reason::TooShort.at(0));
     }
     let first = wire::u32_at(b, FIRST_COUNT);
     let native = wire::u32_at(b, NATIVE_COUNT);
     if MAX_COUNT < first {
-        return Checked::Refused {
-            number: 3,
-            place: 0,
-        };
+        return Err(Reason::TooMany.at(0));
     }
     if MAX_COUNT < native {
-        return Checked::Refused {
-            number: 3,
-            place: 0,
-        };
+        return Err(Reason::TooMany.at(0));
     }
     let names = wire::u32_at(b, NAMES_AT) as usize;
     let total = wire::u32_at(b, NAMES_LENGTH) as usize;
     if (wire::u32_at(b, RECORDS_AT) as usize) != HEADER_SIZE {
-        return Checked::Refused {
-            number: 4,
-            place: 0,
-        };
+        return Err(Reason::WrongLayout.at(0));
     }
     if names != HEADER_SIZE + RECORD_SIZE * ((first + native) as usize) {
-        return Checked::Refused {
-            number: 4,
-            place: 0,
-        };
+        return Err(Reason::WrongLayout.at(0));
     }
     if b.len() != names + total {
-        return Checked::Refused {
-            number: 4,
-            place: 0,
-        };
+        return Err(Reason::WrongLayout.at(0));
     }
-    Checked::Fine
+    Ok(())
 }
 
 // Checks 5 to 8 and 10 of the DLL name.
-fn check_dll(b: &[u8], clean: bool) -> Checked
+fn check_dll(b: &[u8], clean: bool) -> Result<(), Refusal>
     requires shaped { Shaped b.now }
     requires clean_value { clean ≡ is_clean b.now }
     ensures { result ≡ earliest (dll_rows b.now) }
 {
-    let checked = check_string(b, 0, DLL_FIELD, MAX_DLL, true, clean);
-    if let Checked::Refused { number, place } = checked {
-        return Checked::Refused { number, place };
-    }
+    check_string(b, 0, DLL_FIELD, MAX_DLL, true, clean)?;
     let from = (wire::u32_at(b, NAMES_AT) as usize) + (wire::u32_at(b, DLL_FIELD) as usize);
     let n = wire::u32_at(b, DLL_FIELD + 4) as usize;
     if names::dll::barred(wire::part(b, from, n)) {
-        return Checked::Refused {
-            number: 10,
-            place: 0,
-        };
+        return Err(Reason::BarredDll.at(0));
     }
-    Checked::Fine
+    Ok(())
 }
 
 // Whether the names hold no NUL, so that no string does.
@@ -234,15 +204,12 @@ fn is_clean(b: &[u8]) -> bool
 }
 
 // Refusals 5 to 10 of a list whose header is right.
-fn check_rest(b: &[u8]) -> Checked
+fn check_rest(b: &[u8]) -> Result<(), Refusal>
     requires { Shaped b.now }
     ensures { result ≡ earliest (rest_rows b.now) }
 {
     let clean = is_clean(b);
-    let dll = check_dll(b, clean);
-    if let Checked::Refused { number, place } = dll {
-        return Checked::Refused { number, place };
-    }
+    check_dll(b, clean)?;
     check_records(
         b,
         wire::u32_at(b, FIRST_COUNT) + wire::u32_at(b, NATIVE_COUNT),
@@ -251,12 +218,9 @@ fn check_rest(b: &[u8]) -> Checked
 }
 
 // Refusals 2 to 10 of any bytes.
-pub fn check_list(b: &[u8]) -> Checked
+pub fn check_list(b: &[u8]) -> Result<(), Refusal>
     ensures { result ≡ check_list b.now }
 {
-    let header = check_header(b);
-    if let Checked::Refused { number, place } = header {
-        return Checked::Refused { number, place };
-    }
+    check_header(b)?;
     check_rest(b)
 }

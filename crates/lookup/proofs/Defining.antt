@@ -1,5 +1,6 @@
 -- The symbols that a member defines, compared one by one with a symbol.
-use Rattle.std.specs.Prelude.{if◌then◌else◌}
+use Rattle.std.specs.Prelude.{if◌then◌else◌, None, Some}
+use Rattle.std.specs.Prelude as std
 use Prim.Native.Nat.{ℕ, ◌+◌, ◌-◌, ◌%◌, ◌≤◌}
 use mathlib.Core.Path.{◌≡◌, refl, sym, ap, ◌∙◌}
 use mathlib.Core.Bool.{Bool, true, false}
@@ -24,10 +25,10 @@ use Rattle.format.specs.Lookup.{shown, symbols, among}
 use Rattle.format.specs.declared.Span.{Span}
 use Rattle.names.specs.Mangler.{demangled_of, Demangles}
 use Rattle.names.specs.declared.mangler.Demangled.{Demangled}
-use Rattle.names.specs.declared.mangler.Demangled.TheVariants.{Dropped, Cut, Fails}
+use Rattle.names.specs.declared.mangler.Demangled.TheVariants.{Dropped, Cut}
 use Rattle.records.specs.Records.{import_header_at}
 use Rattle.records.specs.declared.ImportObjectHeader.{ImportObjectHeader}
-use Rattle.lookup.specs.Numbered.{short_symbols, plain_symbols, hybrid_symbols, symbols_of}
+use Rattle.lookup.specs.Numbered.{short_symbols, symbols_of}
 use Rattle.lookup.proofs.Saying.{Mute, SaidShort, SaidWeak}
 
 -- ---- a symbol looked for from the start
@@ -52,80 +53,65 @@ among-one s x = pick (same s x)
     pick true = refl
     pick false = refl
 
-module _ (s : Bytes) (k : ℕ) (d : Bytes) where
-  pub plain-address : same s (imp d) ≡ true → true ≡ among s (plain_symbols k d)
-  unfolding among plain_symbols
-  plain-address e = rw e
+-- ---- the symbols of a short import, where d is the one that it shows
 
-  module _ (a : same s (imp d) ≡ false) where
-    pub plain-data : k ≡ 1 → false ≡ among s (plain_symbols k d)
-    unfolding among plain_symbols
-    plain-data e = rw (a, eq-eqb k 1 e)
+module _ (x : Bytes) (m k : ℕ) (s d : Bytes) (q : d ≡ shown m s) where
+  pub short-address : same x (imp d) ≡ true → true ≡ among x (short_symbols m k s)
+  unfolding among symbols
+  short-address e = rw (← q, e)
 
-    pub plain-by : {t : Bool} → (k ≡ 1 → ⊥) → t ≡ same s d → t ≡ among s (plain_symbols k d)
-    unfolding among plain_symbols
-    plain-by n e = rw (a, ne_eqb k 1 n) (e ∙ sym (among-one s d))
-
-module _ (s : Bytes) (k : ℕ) (x d : Bytes) where
-  pub hybrid-address : same s (imp d) ≡ true → true ≡ among s (hybrid_symbols k x d)
-  unfolding among hybrid_symbols
-  hybrid-address e = rw e
-
-  module _ (a : same s (imp d) ≡ false) where
-    pub hybrid-data : k ≡ 1 → false ≡ among s (hybrid_symbols k x d)
-    unfolding among hybrid_symbols
-    hybrid-data e = rw (a, eq-eqb k 1 e)
+  module _ (a : same x (imp d) ≡ false) where
+    pub short-data : k ≡ 1 → false ≡ among x (short_symbols m k s)
+    unfolding among symbols
+    short-data e = rw (← q, a, eq-eqb k 1 e)
 
     module _ (n : k ≡ 1 → ⊥) where
-      pub hybrid-name : same s d ≡ true → true ≡ among s (hybrid_symbols k x d)
-      unfolding among hybrid_symbols
-      hybrid-name e = rw (a, ne_eqb k 1 n, e)
+      pub short-shown : same x d ≡ true → true ≡ among x (short_symbols m k s)
+      unfolding among symbols
+      short-shown e = rw (← q, a, ne_eqb k 1 n, e)
 
-      module _ (b : same s d ≡ false) where
-        pub hybrid-auxiliary : same s (ascii "__imp_aux_" ++ d) ≡ true → true ≡ among s (hybrid_symbols k x d)
-        unfolding among hybrid_symbols
-        hybrid-auxiliary e = rw (a, ne_eqb k 1 n, b, e)
+      module _ (b : same x d ≡ false) where
+        pub short-plain : (m ≡ arm64ec → ⊥) → false ≡ among x (short_symbols m k s)
+        unfolding among symbols
+        short-plain e = rw (← q, a, ne_eqb k 1 n, b, ne_eqb m arm64ec e)
 
-        pub hybrid-by : {t : Bool} → same s (ascii "__imp_aux_" ++ d) ≡ false → t ≡ same s x → t ≡ among s (hybrid_symbols k x d)
-        unfolding among hybrid_symbols
-        hybrid-by c e = rw (a, ne_eqb k 1 n, b, c) (e ∙ sym (among-one s x))
+        module _ (ec : m ≡ arm64ec) where
+          pub short-auxiliary : same x (ascii "__imp_aux_" ++ d) ≡ true → true ≡ among x (short_symbols m k s)
+          unfolding among symbols
+          short-auxiliary e = rw (← q, a, ne_eqb k 1 n, b, eq-eqb m arm64ec ec, e)
 
--- ---- the symbols of a short import
+          pub short-by : {t : Bool} → same x (ascii "__imp_aux_" ++ d) ≡ false → t ≡ same x s → t ≡ among x (short_symbols m k s)
+          unfolding among symbols
+          short-by c e = rw (← q, a, ne_eqb k 1 n, b, eq-eqb m arm64ec ec, c) (e ∙ sym (among-one x s))
 
-pub symbols-plain : (m k : ℕ) (s : Bytes) → (m ≡ arm64ec → ⊥) → plain_symbols k (s ++ []) ≡ short_symbols m k s
-unfolding plain_symbols symbols shown
-symbols-plain m k s n = rw (append-nil s, ne_eqb m arm64ec n)
+-- ---- the symbol that a short import shows
 
-module _ (m k : ℕ) (s : Bytes) (ec : m ≡ arm64ec) where
-  symbols-hybrid : (d : Bytes) → d ≡ get_or (demangle s) s → hybrid_symbols k s d ≡ short_symbols m k s
-  unfolding hybrid_symbols symbols shown
-  symbols-hybrid d e = rw (e, eq-eqb m arm64ec ec)
+pub shown-plain : (m : ℕ) (s : Bytes) → (m ≡ arm64ec → ⊥) → s ++ [] ≡ shown m s
+unfolding shown
+shown-plain m s n = rw (append-nil s, ne_eqb m arm64ec n)
 
-  module _ {r : Demangled} (d : Demangles s r) where
-    pub symbols-dropped : r ≡ Dropped → hybrid_symbols k s (part s 1 (length s - 1) ++ []) ≡ short_symbols m k s
-    unfolding demangled_of
-    symbols-dropped e =
-        let some_is : some (drop 1 s) ≡ demangle s = rw e at d.name in
-        symbols-hybrid _ (append-nil _ ∙ part-last s 1 (length s - 1) (omega arith) ∙ ap (λ (o : Option Bytes). get_or o s) some_is)
+module _ (m : ℕ) (s : Bytes) (ec : m ≡ arm64ec) {r : std.Option Demangled} (d : Demangles s r) where
+  shown-as : {x : Bytes} {o : Option Bytes} → demangled_of s r ≡ o → x ≡ get_or o s → x ≡ shown m s
+  unfolding shown
+  shown-as {x} e f = rw (eq-eqb m arm64ec ec) (f ∙ ap (λ (o : Option Bytes). get_or o s) (sym e ∙ d.name))
 
-    pub symbols-cut : (at : ℕ) → r ≡ Cut at → hybrid_symbols k s (part s 0 at ++ part s (at + 3) (length s - (at + 3))) ≡ short_symbols m k s
-    unfolding demangled_of part
-    symbols-cut at e =
-        let some_is : some (take at s ++ drop (at + 3) s) ≡ demangle s = rw e at d.name in
-        symbols-hybrid _
-        (ap (λ (t : Bytes). take at s ++ t) (part-last s (at + 3) (length s - (at + 3)) (omega arith)) ∙ ap (λ (o : Option Bytes). get_or o s) some_is)
+  pub shown-dropped : r ≡ Some Dropped → drop 1 s ++ [] ≡ shown m s
+  unfolding demangled_of
+  shown-dropped e = shown-as (ap (demangled_of s) e) (append-nil _)
 
-    pub symbols-failed : r ≡ Fails → hybrid_symbols k s (s ++ []) ≡ short_symbols m k s
-    unfolding demangled_of
-    symbols-failed e =
-        let none-is : none ≡ demangle s = rw e at d.name in
-        symbols-hybrid _ (append-nil s ∙ ap (λ (o : Option Bytes). get_or o s) none-is)
+  pub shown-cut : (at : ℕ) → r ≡ Some (Cut at) → take at s ++ drop (at + 3) s ≡ shown m s
+  unfolding demangled_of
+  shown-cut at e = shown-as (ap (demangled_of s) e) refl
 
-module _ {s : Bytes} {r : Demangled} (d : Demangles s r) where
-  pub dropped-some : r ≡ Dropped → 1 ≤ length s
+  pub shown-itself : r ≡ None → s ++ [] ≡ shown m s
+  unfolding demangled_of
+  shown-itself e = shown-as (ap (demangled_of s) e) (append-nil s)
+
+module _ {s : Bytes} {r : std.Option Demangled} (d : Demangles s r) where
+  pub dropped-some : r ≡ Some Dropped → 1 ≤ length s
   dropped-some e = rw e at d.within
 
-  pub cut-some : (at : ℕ) → r ≡ Cut at → at + 4 ≤ length s
+  pub cut-some : (at : ℕ) → r ≡ Some (Cut at) → at + 4 ≤ length s
   cut-some at e = rw e at d.within
 
 -- ---- the symbols of a member, by what the reader answers

@@ -1,5 +1,7 @@
 -- The lookup by numbers is the lookup; and an answered name lies within the set.
-use Rattle.std.specs.Prelude.{if◌then◌else◌}
+use Rattle.std.specs.Prelude.{if◌then◌else◌, None, Some, MatchOption, Result, Ok, Err}
+use Rattle.std.specs.Prelude as std
+use Rattle.std.proofs.Common.{Bor}
 use Prim.Native.Nat.{ℕ, zero, suc, ◌+◌, ◌-◌, ◌≤◌, ◌<◌}
 use mathlib.Core.Path.{◌≡◌, refl, sym, ap, ap₂, ◌∙◌, subst}
 use mathlib.Core.Bool.{Bool, true, false}
@@ -19,15 +21,17 @@ use Rattle.format.specs.Lookup.{Placed, offset_at, length_at, set_count, set_fir
 use Rattle.format.specs.Demands.{LookedUp}
 use Rattle.format.specs.declared.Span.{Span}
 use Rattle.format.specs.declared.Looked.{Looked}
-use Rattle.format.specs.declared.Looked.TheVariants.{NotFound, Nowhere, Ordinal, Name, Refused}
+use Rattle.format.specs.declared.Looked.TheVariants.{NotFound, Nowhere, Ordinal, Name}
 use Rattle.laws.proofs.Names.{first-at}
 use Rattle.laws.proofs.Leads.{apply-within}
 use Rattle.laws.proofs.Lengths.{length-encode-short}
 use Rattle.laws.proofs.ReadBack.{read-sound}
 use Rattle.search.specs.Search.{place_of}
-use Rattle.search.specs.declared.Place.TheVariants as P
+use Rattle.format.specs.Refusals.{refusal}
+use Rattle.format.specs.declared.Reason.TheVariants.{NotASet}
+use Rattle.format.specs.declared.Refusal.{Refusal}
 use Rattle.search.proofs.Searches.{first-here, first-later, place-at, place-nowhere}
-use Rattle.lookup.specs.Numbered.{bytes_of, member_at, symbols_of, defines_at, definer_from, entry_by, led_by, led_at, step_from, answer_from, looked_from, led_as, Within, Led}
+use Rattle.lookup.specs.Numbered.{bytes_of, member_at, symbols_of, defines_at, definer_from, entry_by, led_by, led_at, step_from, answer_from, looked_from, led_as, Leads, if_set}
 use Rattle.lookup.specs.declared.Lead.{Lead}
 use Rattle.lookup.specs.declared.Lead.TheVariants as L
 use Rattle.lookup.proofs.Laying.{laid-count, laid-member, length-bytes_of}
@@ -51,16 +55,55 @@ module _ (b s : Bytes) (i n : ℕ) where
       let q : n - i ≡ 0 = omega arith in
       ap (first (defines_at b s) i) q
 
+-- by the outcomes of a search
+module _ (b s : Bytes) where
+  definer-none : (i n : ℕ) → ((k : ℕ) → i ≤ k → k < i + n → defines_at b s k ≡ false) → definer_from b s i n ≡ none
+  unfolding definer_from first
+  definer-none i zero h = refl
+  definer-none i (suc n) h =
+      let here : defines_at b s i ≡ false = h i (omega arith) (omega arith) in
+      rw here (definer-none (i + 1) n (λ k low high. h k (omega arith) (omega arith)))
+
+  definer-some : (i n j : ℕ) → i ≤ j → j < i + n → defines_at b s j ≡ true → ((k : ℕ) → i ≤ k → k < j → defines_at b s k ≡ false)
+      → definer_from b s i n ≡ some j
+  unfolding definer_from first
+  definer-some i zero j low high e h = absurd (omega arith)
+  definer-some i (suc n) j low high e h =
+      pick (ℕ_discrete i j) (λ l g. definer-some (i + 1) n j l (omega arith) e g)
+    where
+      pick : Dec (i ≡ j) → (i + 1 ≤ j → ((k : ℕ) → i + 1 ≤ k → k < j → defines_at b s k ≡ false) → first (defines_at b s) (i + 1) n ≡ some j)
+          → (if defines_at b s i then some i else first (defines_at b s) (i + 1) n) ≡ some j
+      pick (yes q) ih =
+          let here : defines_at b s i ≡ true = ap (defines_at b s) q ∙ e in
+          rw here (ap some q)
+      pick (no q) ih =
+          let here : defines_at b s i ≡ false = h i (omega arith) (omega arith) in
+          rw here (ih (omega arith) (λ k l g. h k (omega arith) g))
+
+  pub definer-searched : (i n : ℕ) (r : std.Option ℕ) → i ≤ n
+      → MatchOption r ((k : ℕ) → i ≤ k → k < n → defines_at b s k ≡ false)
+      (λ j. (i ≤ j) × (j < n) × (defines_at b s j ≡ true) × ((k : ℕ) → i ≤ k → k < j → defines_at b s k ≡ false))
+      → r ≡ place_of (definer_from b s i (n - i))
+  definer-searched i n None h m = sym (ap place_of (definer-none i (n - i) (λ k low high. m k low (omega arith))))
+  definer-searched i n (Some j) h m = sym (ap place_of (definer-some i (n - i) j m.0 (omega (arith, m.1)) m.2 m.3))
+
 pub definer-at : (b s : Bytes) (i n j : ℕ) → definer_from b s i n ≡ some j → j < i + n
 unfolding definer_from
 definer-at b s i n j e = (first-at (defines_at b s) i n j e).below
 
-pub definer-below : (b s : Bytes) (i n j : ℕ) → i ≤ n → place_of (definer_from b s i (n - i)) ≡ P.At j → j < n
+pub definer-below : (b s : Bytes) (i n j : ℕ) → i ≤ n → place_of (definer_from b s i (n - i)) ≡ Some j → j < n
 definer-below b s i n j h e = omega (arith, definer-at b s i (n - i) j (place-at _ j e))
 
 pub defines-at : {t : Bool} {m : Bytes} (b s : Bytes) (i : ℕ) → t ≡ among s (symbols_of (read m)) → m ≡ bytes_of b i → t ≡ defines_at b s i
 unfolding defines_at member_at
 defines-at b s i e f = e ∙ ap (λ (m : Bytes). among s (symbols_of (read m))) f
+
+module _ (b s : Bytes) (i : ℕ) {m : Bytes} where
+  pub defines-yes : true ≡ among s (symbols_of (read m)) → m ≡ bytes_of b i → defines_at b s i ≡ true
+  defines-yes e f = sym (defines-at b s i e f)
+
+  pub defines-no : false ≡ among s (symbols_of (read m)) → m ≡ bytes_of b i → defines_at b s i ≡ false
+  defines-no e f = sym (defines-at b s i e f)
 
 -- ---- where a member leads
 
@@ -69,43 +112,32 @@ module _ {m : Bytes} (b : Bytes) (j : ℕ) (f : m ≡ bytes_of b j) where
   unfolding member_at
   led-read other weakly = ap (λ (m : Bytes). led_by other weakly (offset_at b j) (read m)) f
 
-  pub led-mute : Mute m → Led b j L.Nothing
-  led-mute h = record { leads = λ other weakly. h.leads other weakly (offset_at b j) ∙ led-read other weakly; within = tt }
+  pub led-mute : Mute m → Leads b j None
+  led-mute h = record { leads = λ other weakly. h.leads other weakly (offset_at b j) ∙ led-read other weakly }
 
-  pub led-weak : {k : ℕ} {target alias : Span} → SaidWeak m k target alias → Led b j (L.Target target)
+  pub led-weak : {k : ℕ} {target alias : Span} (t : Bor Bytes) → SaidWeak m k target alias → t.now ≡ part m target.start target.length
+      → Leads b j (Some (L.Target t))
   unfolding led_by
-  led-weak {target = t} h =
+  led-weak t h g =
       record {
-        leads = λ other weakly.
-            ap (λ (d : Bytes). weakly (part d t.start t.length)) (sym f) ∙ sym (ap (led_by other weakly (offset_at b j)) h.is) ∙ led-read other weakly;
-        within = record { inside = omega (arith, h.to.inside, ap length f) };
+        leads = λ other weakly. ap weakly g ∙ sym (ap (led_by other weakly (offset_at b j)) h.is) ∙ led-read other weakly;
       }
 
   pub led-short : {r : Looked} {at k o t y : ℕ} {p x : Span} → SaidShort m k o t y p x → at ≡ offset_at b j
-      → r ≡ entry_by at o t p.start (part m p.start p.length) x → Led b j (L.Answer r)
+      → r ≡ entry_by at o t p.start (part m p.start p.length) x → Leads b j (Some (L.Answer r))
   unfolding led_by
   led-short {o = o} {t} {p = p} {x} h g r =
       record {
         leads = λ other weakly.
             r ∙ ap (λ (at : ℕ). entry_by at o t p.start (part m p.start p.length) x) g ∙ h.answers (offset_at b j)
             ∙ sym (ap (led_by other weakly (offset_at b j)) h.is) ∙ led-read other weakly;
-        within = tt;
       }
 
 -- by which lead it is
-module _ (b : Bytes) (j : ℕ) {r : Lead} (q : Lead) (h : Led b j r) (e : r ≡ q) where
-  pub led-at : (other : Looked) (weakly : Bytes → Looked) → led_as other weakly (bytes_of b j) q ≡ led_at b other weakly (some j)
-  unfolding led_at
-  led-at other weakly = ap (led_as other weakly (bytes_of b j)) (sym e) ∙ h.leads other weakly
-
-  pub led-within : Within (length (bytes_of b j)) q
-  led-within = subst (Within (length (bytes_of b j))) e h.within
-
--- the target of a weak external
-pub led-target : {r : Looked} {m name : Bytes} (b : Bytes) (j : ℕ) (s : Span) (other : Looked) (weakly : Bytes → Looked)
-    → led_as other weakly (bytes_of b j) (L.Target s) ≡ led_at b other weakly (some j) → m ≡ bytes_of b j → name ≡ part m s.start s.length → r ≡ weakly name
-    → r ≡ led_at b other weakly (some j)
-led-target b j s other weakly e f g h = h ∙ ap weakly (g ∙ ap (λ (d : Bytes). part d s.start s.length) f) ∙ e
+pub led-at : {r : std.Option Lead} (b : Bytes) (j : ℕ) (q : std.Option Lead) → Leads b j r → r ≡ q → (other : Looked) (weakly : Bytes → Looked)
+    → led_as other weakly q ≡ led_at b other weakly (some j)
+unfolding led_at
+led-at b j q h e other weakly = ap (led_as other weakly) (sym e) ∙ h.leads other weakly
 
 -- ---- the members of a list, by their numbers
 
@@ -174,25 +206,25 @@ module _ (b : Bytes) (i n : ℕ) (ps : List Placed) (e : read_from b i n ≡ som
 
 -- as the functions have it
 module _ (b : Bytes) (i n : ℕ) (s : Bytes) where
-  pub step-none : place_of (definer_from b s i n) ≡ P.Nowhere → Nowhere ≡ step_from b i n s
+  pub step-none : place_of (definer_from b s i n) ≡ None → Nowhere ≡ step_from b i n s
   unfolding step_from led_at
   step-none e = rw (place-nowhere (definer_from b s i n) e)
 
-  pub step-at : {r : Looked} (j : ℕ) → place_of (definer_from b s i n) ≡ P.At j → r ≡ led_at b Nowhere (λ another. Nowhere) (some j) → r ≡ step_from b i n s
+  pub step-at : {r : Looked} (j : ℕ) → place_of (definer_from b s i n) ≡ Some j → r ≡ led_at b Nowhere (λ another. Nowhere) (some j) → r ≡ step_from b i n s
   unfolding step_from
   step-at j e g = g ∙ ap (led_at b Nowhere (λ another. Nowhere)) (sym (place-at (definer_from b s i n) j e))
 
-  pub looked-refused : is_some (read_set b) ≡ false → Refused 17 0 ≡ looked_from b i n s
+  pub looked-refused : is_some (read_set b) ≡ false → Err (refusal NotASet 0) ≡ looked_from b i n s
   unfolding looked_from
   looked-refused e = rw e
 
-  pub looked-none : is_some (read_set b) ≡ true → definer_from b s i n ≡ none → NotFound ≡ looked_from b i n s
+  pub looked-none : is_some (read_set b) ≡ true → definer_from b s i n ≡ none → Ok NotFound ≡ looked_from b i n s
   unfolding looked_from answer_from led_at
   looked-none e f = rw (e, f)
 
-  pub looked-at : {r : Looked} (j : ℕ) → is_some (read_set b) ≡ true → definer_from b s i n ≡ some j → r ≡ led_at b NotFound (step_from b i n) (some j) → r ≡ looked_from b i n s
+  pub looked-at : {r : Looked} (j : ℕ) → is_some (read_set b) ≡ true → definer_from b s i n ≡ some j → r ≡ led_at b NotFound (step_from b i n) (some j) → Ok r ≡ looked_from b i n s
   unfolding looked_from answer_from
-  looked-at j e f g = rw (e, f) g
+  looked-at j e f g = rw (e, f) (ap Ok g)
 
 -- ---- the first of some members, and those after them
 
@@ -225,60 +257,61 @@ parted b i (suc k) n (suc m) ps q e =
 
 -- ---- the lookup
 
-pub lookup-refused : (b : Bytes) (l : ℕ) (s : Bytes) → is_some (read_set b) ≡ false → Refused 17 0 ≡ lookup b l s
+pub lookup-refused : (b : Bytes) (l : ℕ) (s : Bytes) → is_some (read_set b) ≡ false → Err (refusal NotASet 0) ≡ lookup b l s
 unfolding lookup lookup_set is_some
 lookup-refused b l s e = pick (read_set b) e
   where
-    pick : (o : Option (List Placed)) → is_some o ≡ false → Refused 17 0 ≡ lookup_set b l s o
+    pick : (o : Option (List Placed)) → is_some o ≡ false → Err (refusal NotASet 0) ≡ lookup_set b l s o
     pick none e = refl
     pick (some ps) e = let z : ◌≡◌ {A = ℕ} 0 1 = cc in absurd (omega arith)
 
 module _ (b : Bytes) (v : Valid b) (s : Bytes) where
-  lookup-valid : (l : ℕ) → lookup b l s ≡ lookup_in (list_of b l v.members) s
+  lookup-valid : (l : ℕ) → lookup b l s ≡ Ok (lookup_in (list_of b l v.members) s)
   unfolding lookup lookup_set
   lookup-valid l = ap (lookup_set b l s) v.are
 
   after-fixed : Parted b 0 3 (set_firsts b + set_natives b) v.members
   after-fixed = parted b 0 3 (set_firsts b + set_natives b) (set_count b) v.members (omega (arith, laid-count b v.laid)) v.read-as
 
-  lookup-first : (l : ℕ) → l ≡ 1 → answer_from b 3 (3 + set_firsts b - 3) s ≡ lookup b l s
+  lookup-first : (l : ℕ) → l ≡ 1 → Ok (answer_from b 3 (3 + set_firsts b - 3) s) ≡ lookup b l s
   unfolding list_of
   lookup-first l e =
       let n : 3 + set_firsts b - 3 ≡ set_firsts b = omega arith in
       let p = parted b 3 (set_firsts b) (set_natives b) (set_firsts b + set_natives b) (drop 3 v.members) refl after-fixed.others in
-      ap (λ (n : ℕ). answer_from b 3 n s) n ∙ lookup-from b 3 (set_firsts b) (take (set_firsts b) (drop 3 v.members)) p.firsts s
+      ap Ok (ap (λ (n : ℕ). answer_from b 3 n s) n ∙ lookup-from b 3 (set_firsts b) (take (set_firsts b) (drop 3 v.members)) p.firsts s)
       ∙ sym (lookup-valid l ∙ rw (eq-eqb l 1 e))
 
-  lookup-native : (l : ℕ) → l ≡ 2 → answer_from b (3 + set_firsts b) (set_count b - (3 + set_firsts b)) s ≡ lookup b l s
+  lookup-native : (l : ℕ) → l ≡ 2 → Ok (answer_from b (3 + set_firsts b) (set_count b - (3 + set_firsts b)) s) ≡ lookup b l s
   unfolding list_of
   lookup-native l e =
       let n : set_count b - (3 + set_firsts b) ≡ set_natives b = omega (arith, laid-count b v.laid) in
       let p = parted b 0 (3 + set_firsts b) (set_natives b) (set_count b) v.members (laid-count b v.laid) v.read-as in
-      ap (λ (n : ℕ). answer_from b (3 + set_firsts b) n s) n ∙ lookup-from b (3 + set_firsts b) (set_natives b) (drop (3 + set_firsts b) v.members)
-      (ap (λ (k : ℕ). read_from b k (set_natives b)) (sym (zero-add (3 + set_firsts b))) ∙ p.others) s
+      ap Ok
+      (ap (λ (n : ℕ). answer_from b (3 + set_firsts b) n s) n ∙ lookup-from b (3 + set_firsts b) (set_natives b) (drop (3 + set_firsts b) v.members)
+      (ap (λ (k : ℕ). read_from b k (set_natives b)) (sym (zero-add (3 + set_firsts b))) ∙ p.others) s)
       ∙ sym (lookup-valid l ∙ rw e)
 
-  lookup-other : (l : ℕ) → (l ≡ 1 → ⊥) → (l ≡ 2 → ⊥) → NotFound ≡ lookup b l s
+  lookup-other : (l : ℕ) → (l ≡ 1 → ⊥) → (l ≡ 2 → ⊥) → Ok NotFound ≡ lookup b l s
   unfolding list_of lookup_in answer definer
   lookup-other l n k = sym (lookup-valid l ∙ rw (ne_eqb l 1 n, ne_eqb l 2 k))
 
 -- whether the bytes are a set or not, by the numbers that the code has
 module _ (b : Bytes) (s : Bytes) (l : ℕ) where
-  looked-by : (i n : ℕ) → (Valid b → answer_from b i n s ≡ lookup b l s) → looked_from b i n s ≡ lookup b l s
+  looked-by : (i n : ℕ) → (Valid b → Ok (answer_from b i n s) ≡ lookup b l s) → looked_from b i n s ≡ lookup b l s
   unfolding looked_from
   looked-by i n f = pick (is_some (read_set b)) refl
     where
-      pick : (t : Bool) → is_some (read_set b) ≡ t → (if t then answer_from b i n s else Refused 17 0) ≡ lookup b l s
+      pick : (t : Bool) → is_some (read_set b) ≡ t → if_set t (answer_from b i n s) ≡ lookup b l s
       pick true e = f (valid b e)
       pick false e = lookup-refused b l s e
 
-  pub looked-first : {r : Looked} {k : ℕ} → l ≡ 1 → k ≡ set_firsts b → r ≡ looked_from b 3 (3 + k - 3) s → r ≡ lookup b l s
+  pub looked-first : {r : Result Looked Refusal} {k : ℕ} → l ≡ 1 → k ≡ set_firsts b → r ≡ looked_from b 3 (3 + k - 3) s → r ≡ lookup b l s
   looked-first e f g = g ∙ ap (λ (k : ℕ). looked_from b 3 (3 + k - 3) s) f ∙ looked-by _ _ (λ v. lookup-first b v s l e)
 
-  pub looked-native : {r : Looked} {k n : ℕ} → l ≡ 2 → k ≡ set_firsts b → n ≡ set_count b → r ≡ looked_from b (3 + k) (n - (3 + k)) s → r ≡ lookup b l s
+  pub looked-native : {r : Result Looked Refusal} {k n : ℕ} → l ≡ 2 → k ≡ set_firsts b → n ≡ set_count b → r ≡ looked_from b (3 + k) (n - (3 + k)) s → r ≡ lookup b l s
   looked-native e f h g = g ∙ ap₂ (λ (k n : ℕ). looked_from b (3 + k) (n - (3 + k)) s) f h ∙ looked-by _ _ (λ v. lookup-native b v s l e)
 
-  pub looked-other : (l ≡ 1 → ⊥) → (l ≡ 2 → ⊥) → is_some (read_set b) ≡ true → NotFound ≡ lookup b l s
+  pub looked-other : (l ≡ 1 → ⊥) → (l ≡ 2 → ⊥) → is_some (read_set b) ≡ true → Ok NotFound ≡ lookup b l s
   looked-other n k e = lookup-other b (valid b e) s l n k
 
 -- ---- an answered name lies within the set
@@ -289,7 +322,10 @@ Ends n NotFound = Unit {0}
 Ends n Nowhere = Unit {0}
 Ends n (Ordinal o) = Unit {0}
 Ends n (Name s) = s.start + s.length ≤ n
-Ends n (Refused number place) = Unit {0}
+
+abbrev AnswerEnds : ℕ → Result Looked Refusal → Type 0
+AnswerEnds n (Ok l) = Ends n l
+AnswerEnds n (Err r) = Unit {0}
 
 entry-ends : (n at o t : ℕ) (s dll x : Bytes) → at + (22 + length s + length dll + (if eqb t 4 then length x + 1 else 0)) ≤ n → Ends n (entry at o t s dll x)
 unfolding entry
@@ -330,21 +366,21 @@ module _ (b : Bytes) (laid : laid_out b ≡ true) where
     unfolding answer_from step_from
     answer-ends s = led-ends s NotFound (step_from b i n) tt (λ t. led-ends t Nowhere (λ another. Nowhere) tt (λ u. tt))
 
-lookup-ends : (b : Bytes) (l : ℕ) (s : Bytes) → Ends (length b) (lookup b l s)
+lookup-ends : (b : Bytes) (l : ℕ) (s : Bytes) → AnswerEnds (length b) (lookup b l s)
 unfolding is_some
 lookup-ends b l s = pick (is_some (read_set b)) refl
   where
-    by : {r : Looked} → r ≡ lookup b l s → Ends (length b) r → Ends (length b) (lookup b l s)
-    by e h = subst (Ends (length b)) e h
+    by : {r : Result Looked Refusal} → r ≡ lookup b l s → AnswerEnds (length b) r → AnswerEnds (length b) (lookup b l s)
+    by e h = subst (AnswerEnds (length b)) e h
 
-    listed : Valid b → Dec (l ≡ 1) → Dec (l ≡ 2) → Ends (length b) (lookup b l s)
+    listed : Valid b → Dec (l ≡ 1) → Dec (l ≡ 2) → AnswerEnds (length b) (lookup b l s)
     listed v (yes e) q = by (lookup-first b v s l e) (answer-ends b v.laid 3 (3 + set_firsts b - 3) (omega (arith, laid-count b v.laid)) s)
     listed v (no n) (yes e) =
         by (lookup-native b v s l e)
         (answer-ends b v.laid (3 + set_firsts b) (set_count b - (3 + set_firsts b)) (omega (arith, laid-count b v.laid)) s)
     listed v (no n) (no k) = by (lookup-other b v s l n k) tt
 
-    pick : (t : Bool) → is_some (read_set b) ≡ t → Ends (length b) (lookup b l s)
+    pick : (t : Bool) → is_some (read_set b) ≡ t → AnswerEnds (length b) (lookup b l s)
     pick true e = listed (valid b e) (ℕ_discrete l 1) (ℕ_discrete l 2)
     pick false e = by (lookup-refused b l s e) tt
 
@@ -353,5 +389,5 @@ pub looked-up : (b : Bytes) (l : ℕ) (s : Bytes) → LookedUp b l s (lookup b l
 looked-up b l s =
     record {
       answers = refl;
-      lies = λ n e. subst (Ends (length b)) e (lookup-ends b l s);
+      lies = λ n e. subst (AnswerEnds (length b)) e (lookup-ends b l s);
     }

@@ -17,16 +17,7 @@ use Rattle.lookup.specs.Numbered.{bytes_of, member_at, rank_of, next_rank, ranke
 
 -- ---- the rank after one
 
-pub next-listed : (r : ℕ) → r ≡ 3 → 3 ≡ next_rank r
-unfolding next_rank
-next-listed r e = rw (eq-eqb r 3 e)
-
-pub next-fixed : (r : ℕ) → (r ≡ 3 → ⊥) → r + 1 ≡ next_rank r
-unfolding next_rank
-next-fixed r n = rw (ne_eqb r 3 n)
-
 next-small : (r : ℕ) → r ≤ 3 → next_rank r ≤ 3
-unfolding next_rank
 next-small r h = pick (eqb r 3) refl
   where
     pick : (t : Bool) → eqb r 3 ≡ t → (if t then 3 else r + 1) ≤ 3
@@ -66,12 +57,12 @@ after r zero = r
 after r (suc k) = after (next_rank r) k
 
 after-listed : (k : ℕ) → after 3 k ≡ 3
-unfolding after next_rank
+unfolding after
 after-listed zero = refl
 after-listed (suc k) = after-listed k
 
 after-fixed : (k : ℕ) → 3 ≤ k → after 0 k ≡ 3
-unfolding after next_rank
+unfolding after
 after-fixed zero h = absurd (omega arith)
 after-fixed (suc zero) h = absurd (omega arith)
 after-fixed (suc (suc zero)) h = absurd (omega arith)
@@ -101,7 +92,7 @@ is_ordered r none = false
 is_ordered r (some ps) = ordered r ps
 
 ranked-read : (b : Bytes) (r i n : ℕ) → r ≤ 3 → ranked_from b r i n ≡ is_ordered r (read_from b i n)
-unfolding ranked_from read_from is_ordered ordered place_first member_at bytes_of rank_of next_rank
+unfolding ranked_from read_from is_ordered ordered place_first member_at bytes_of rank_of
 ranked-read b r i zero h = refl
 ranked-read b r i (suc n) h =
     pick (read (part b (offset_at b i) (length_at b i))) (read_from b (i + 1) n) (ranked-read b (next_rank r) (i + 1) n (next-small r h))
@@ -153,8 +144,8 @@ module _ (b : Bytes) (laid : laid_out b ≡ true) where
         ordered-set b laid ∙ ranked-split b 0 0 f (set_count b - f) (set_count b) (omega arith)
         ∙ ap₂ (λ (r i : ℕ). if ranked_from b 0 0 f then ranked_from b r i (set_count b - f) else false) (after-fixed f listed) (zero-add f)
 
-    pub set-refused : ranked_from b 0 0 (f - 0) ≡ false → is_some (read_set b) ≡ false
-    set-refused e =
+    pub set-unordered : ranked_from b 0 0 (f - 0) ≡ false → is_some (read_set b) ≡ false
+    set-unordered e =
         let q : ranked_from b 0 0 f ≡ false = ap (ranked_from b 0 0) (sym (sub-zero f)) ∙ e in
         set-parts ∙ rw q
 

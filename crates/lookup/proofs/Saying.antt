@@ -1,18 +1,24 @@
 -- What the reader's answer says of the member that the bytes are read as, with each name by its place.
-use Rattle.std.specs.Prelude.{if◌then◌else◌}
+use Rattle.std.specs.Prelude.{if◌then◌else◌, Result, Ok, Err, None, Some}
 use Prim.Native.Nat.{ℕ, ◌+◌, ◌≤◌}
 use mathlib.Core.Path.{◌≡◌, refl, sym, ap, ap₂, ◌∙◌, subst}
 use mathlib.Core.Bool.{Bool, true, false}
 use mathlib.Core.Option.{Option, none, some}
 use mathlib.Core.List.{[]}
+use mathlib.Core.Logic.{◌⊎◌, inl, inr}
+use Rattle.std.specs.Result.{result_ok}
 use native.Mathlib.Omega.{arith}
 use lib.ListN.{length}
 use lib.Dec.{eqb}
+use borrow.Author.Tests.{eq-eqb, ne_eqb, eqb-true, eqb-false}
 use Rattle.wire.specs.Bytes.{Bytes, part}
 use Rattle.format.specs.Names.{apply, dropped}
 use Rattle.format.specs.Layouts.{Member, descriptor, null_descriptor, null_thunk, short, weak, import_header_size, encode}
 use Rattle.format.specs.Reader.{weak_strings_at, read, span, absent, fields, fields_or_refused, read_fields}
 use Rattle.format.specs.Lookup.{symbols, rank, entry}
+use Rattle.format.specs.Refusals.{refusal}
+use Rattle.format.specs.declared.Reason.TheVariants.{NotASet}
+use Rattle.format.specs.declared.Refusal.{Refusal}
 use Rattle.format.specs.declared.Span.{Span}
 use Rattle.format.specs.declared.Read.{Read}
 use Rattle.format.specs.declared.Read.TheVariants as R
@@ -21,51 +27,58 @@ use Rattle.format.specs.declared.Looked.{Looked}
 use Rattle.laws.proofs.Lengths.{length-encode-short, length-encode-weak}
 use Rattle.laws.proofs.Places.{part-encode-short-symbol, part-encode-weak-target, part-encode-weak-alias}
 use Rattle.laws.proofs.ReadBack.{read-sound}
-use Rattle.lookup.specs.Numbered.{bytes_of, member_at, rank_of, rank_read, symbols_of, entry_by, led_by, Inside}
+use Rattle.lookup.specs.Numbered.{bytes_of, member_at, rank_of, rank_read, ranked_as, symbols_of, entry_by, led_by, Inside}
+use Rattle.lookup.proofs.Refusing.{set-kept, set-refused}
 
 -- ---- the rank
 
-pub rank-read : (b : Bytes) → rank_read (read_fields b) ≡ rank_of (read b)
-unfolding read_fields fields_or_refused fields rank_read rank_of rank
-rank-read b = pick (read b)
-  where
-    pick : (o : Option Member) → rank_read (fields_or_refused o) ≡ rank_of o
-    pick none = refl
-    pick (some (descriptor m dll compat)) = refl
-    pick (some (null_descriptor m s)) = refl
-    pick (some (null_thunk m s)) = refl
-    pick (some (short m o k t s dll x)) = refl
-    pick (some (weak m target alias)) = refl
+rank-fields : (m : Member) → rank_read (fields m) ≡ rank m
+unfolding fields rank
+rank-fields (descriptor m dll compat) = refl
+rank-fields (null_descriptor m s) = refl
+rank-fields (null_thunk m s) = refl
+rank-fields (short m o k t s dll x) = refl
+rank-fields (weak m target alias) = refl
 
--- by which answer it is
-module _ (r : Read) where
-  pub rank-descriptor : {m : ℕ} {c : Bool} {dll s : Span} → r ≡ R.Descriptor m c dll s → 0 ≡ rank_read r
-  unfolding rank_read
-  rank-descriptor e = rw e
+-- by what is read, and its rank
+module _ (x : Result Read Refusal) (r : ℕ) where
+  pub ranked-none : {q : Refusal} → x ≡ Err q → Err (refusal NotASet 0) ≡ ranked_as r x
+  unfolding ranked_as
+  ranked-none e = rw e
 
-  pub rank-null : {m : ℕ} {c : Bool} {s : Span} → r ≡ R.NullDescriptor m c s → 1 ≡ rank_read r
-  unfolding rank_read
-  rank-null e = rw e
+  pub ranked-other : {f : Read} → x ≡ Ok f → (rank_read f ≡ r → ⊥) → Err (refusal NotASet 0) ≡ ranked_as r x
+  unfolding ranked_as
+  ranked-other {f} e n = rw (e, ne_eqb (rank_read f) r n)
 
-  pub rank-thunk : {m : ℕ} {s : Span} → r ≡ R.NullThunk m s → 2 ≡ rank_read r
-  unfolding rank_read
-  rank-thunk e = rw e
+  pub ranked-some : {f : Read} → x ≡ Ok f → rank_read f ≡ r → Ok f ≡ ranked_as r x
+  unfolding ranked_as
+  ranked-some {f} e g = rw (e, eq-eqb (rank_read f) r g)
 
-  pub rank-short : {m o t k : ℕ} {s dll x : Span} → r ≡ R.ShortImport m o t k s dll x → 3 ≡ rank_read r
-  unfolding rank_read
-  rank-short e = rw e
+-- a member that has to have a rank, by its bytes: it has it, or the bytes are no set
+module _ (b : Bytes) (r : ℕ) where
+  pub ranked-kept : {f : Read} → ranked_as r (read_fields b) ≡ Ok f → (Ok f ≡ read_fields b) × (rank_of (read b) ≡ r)
+  unfolding read_fields fields_or_refused ranked_as rank_of
+  ranked-kept {f} e = pick (read b) e
+    where
+      pick : (o : Option Member) → ranked_as r (fields_or_refused o) ≡ Ok f → (Ok f ≡ fields_or_refused o) × (rank_of o ≡ r)
+      pick none e = let z : ◌≡◌ {A = ℕ} 0 1 = cc in absurd (omega arith)
+      pick (some m) e =
+          let k = set-kept (eqb (rank_read (fields m)) r) (fields m) e in
+          (ap Ok (sym k.1), sym (rank-fields m) ∙ eqb-true _ _ k.0)
 
-  pub rank-weak : {m : ℕ} {target alias : Span} → r ≡ R.WeakExternal m target alias → 3 ≡ rank_read r
-  unfolding rank_read
-  rank-weak e = rw e
+  pub ranked-refused : {q : Refusal} → r ≤ 3 → ranked_as r (read_fields b) ≡ Err q → (rank_of (read b) ≡ r → ⊥) × (q ≡ refusal NotASet 0)
+  unfolding read_fields fields_or_refused ranked_as rank_of
+  ranked-refused {q} h e = pick (read b) e
+    where
+      pick : (o : Option Member) → ranked_as r (fields_or_refused o) ≡ Err q → (rank_of o ≡ r → ⊥) × (q ≡ refusal NotASet 0)
+      pick none e = (λ z. omega arith, cc)
+      pick (some m) e =
+          let k = set-refused (eqb (rank_read (fields m)) r) (fields m) e in
+          (λ z. eqb-false _ _ k.0 (rank-fields m ∙ z), k.1)
 
-  pub rank-refused : {number place : ℕ} → r ≡ R.Refused number place → 4 ≡ rank_read r
-  unfolding rank_read
-  rank-refused e = rw e
-
-pub rank-at : {r : ℕ} {x : Read} {m : Bytes} (b : Bytes) (i : ℕ) → r ≡ rank_read x → x ≡ read_fields m → m ≡ bytes_of b i → r ≡ rank_of (member_at b i)
+pub rank-at : {m : Bytes} (b : Bytes) (i : ℕ) → m ≡ bytes_of b i → rank_of (read m) ≡ rank_of (member_at b i)
 unfolding member_at
-rank-at {m = m} b i e f g = e ∙ ap rank_read f ∙ rank-read m ∙ ap (λ (m : Bytes). rank_of (read m)) g
+rank-at b i e = ap (λ (m : Bytes). rank_of (read m)) e
 
 -- ---- the member, by the answer
 
@@ -93,7 +106,6 @@ Said b (R.NullDescriptor m c s) = Mute b
 Said b (R.NullThunk m s) = Mute b
 Said b (R.ShortImport m o t k s dll x) = SaidShort b m o t k s x
 Said b (R.WeakExternal m target alias) = SaidWeak b m target alias
-Said b (R.Refused number place) = Mute b
 
 entry-by : (at o t : ℕ) (s dll x : Bytes)
     → entry_by at o t import_header_size s (if eqb t 4 then span (import_header_size + (length s + 1) + (length dll + 1)) (length x) else absent) ≡ entry at o t s dll x
@@ -164,18 +176,55 @@ mute b o e d l =
       leads = λ other weakly at. l other weakly at ∙ ap (led_by other weakly at) (sym e);
     }
 
-said : (b : Bytes) → Said b (read_fields b)
-unfolding read_fields fields_or_refused fields symbols_of symbols led_by
-said b = pick (read b) refl
-  where
-    pick : (o : Option Member) → read b ≡ o → Said b (fields_or_refused o)
-    pick none e = mute b none e refl (λ other weakly at. refl)
-    pick (some (descriptor m dll compat)) e = mute b (some (descriptor m dll compat)) e refl (λ other weakly at. refl)
-    pick (some (null_descriptor m s)) e = mute b (some (null_descriptor m s)) e refl (λ other weakly at. refl)
-    pick (some (null_thunk m s)) e = mute b (some (null_thunk m s)) e refl (λ other weakly at. refl)
-    pick (some (short m o k t s dll x)) e = said-short b m o k t s dll x e
-    pick (some (weak m target alias)) e = said-weak b m target alias e
+module _ (b : Bytes) where
+  -- of what the reader answers
+  said : {f : Read} → Ok f ≡ read_fields b → Said b f
+  unfolding read_fields fields_or_refused fields symbols_of symbols led_by
+  said {f} h = pick (read b) refl h
+    where
+      by : (q : Read) → Said b q → ◌≡◌ {A = Result Read Refusal} (Ok f) (Ok q) → Said b f
+      by q s e =
+          let z : f ≡ q = cc in
+          subst (Said b) (sym z) s
 
--- of an answer that is one of them
-pub said-as : {r : Read} (b : Bytes) (q : Read) → r ≡ read_fields b → r ≡ q → Said b q
-said-as b q e f = subst (Said b) (sym e ∙ f) (said b)
+      pick : (o : Option Member) → read b ≡ o → Ok f ≡ fields_or_refused o → Said b f
+      pick none e h = let z : ◌≡◌ {A = ℕ} 0 1 = cc in absurd (omega arith)
+      pick (some (descriptor m dll compat)) e h = by _ (mute b (some (descriptor m dll compat)) e refl (λ other weakly at. refl)) h
+      pick (some (null_descriptor m s)) e h = by _ (mute b (some (null_descriptor m s)) e refl (λ other weakly at. refl)) h
+      pick (some (null_thunk m s)) e h = by _ (mute b (some (null_thunk m s)) e refl (λ other weakly at. refl)) h
+      pick (some (short m o k t s dll x)) e h = by _ (said-short b m o k t s dll x e) h
+      pick (some (weak m target alias)) e h = by _ (said-weak b m target alias e) h
+
+  -- of one that is one of them
+  pub said-as : {f : Read} (q : Read) → Ok f ≡ read_fields b → f ≡ q → Said b q
+  said-as q e g = subst (Said b) g (said e)
+
+  -- of a refusal
+  pub said-refused : {r : Refusal} → Err r ≡ read_fields b → Mute b
+  unfolding read_fields fields_or_refused symbols_of led_by
+  said-refused {r} h = pick (read b) refl h
+    where
+      pick : (o : Option Member) → read b ≡ o → Err r ≡ fields_or_refused o → Mute b
+      pick none e h = mute b none e refl (λ other weakly at. refl)
+      pick (some m) e h = let z : ◌≡◌ {A = ℕ} 0 1 = cc in absurd (omega arith)
+
+  -- of one that is a fixed member's
+  pub said-fixed : {f : Read} → Ok f ≡ read_fields b
+      → ((m : ℕ) × (c : Bool) × (d : Span) × (s : Span) × (f ≡ R.Descriptor m c d s))
+      ⊎ (((m : ℕ) × (c : Bool) × (s : Span) × (f ≡ R.NullDescriptor m c s)) ⊎ ((m : ℕ) × (s : Span) × (f ≡ R.NullThunk m s)))
+      → Mute b
+  said-fixed e (inl (m, c, d, s, q)) = said-as (R.Descriptor m c d s) e q
+  said-fixed e (inr (inl (m, c, s, q))) = said-as (R.NullDescriptor m c s) e q
+  said-fixed e (inr (inr (m, s, q))) = said-as (R.NullThunk m s) e q
+
+-- what the reader answers, as an option
+pub read-some : {f : Read} (r : Result Read Refusal) → result_ok r ≡ Some f → Ok f ≡ r
+read-some (Ok g) e = cc
+read-some (Err q) e = cc
+
+pub read-none : (b : Bytes) → result_ok (read_fields b) ≡ None → Mute b
+read-none b e = pick (read_fields b) refl e
+  where
+    pick : (r : Result Read Refusal) → read_fields b ≡ r → result_ok r ≡ None → Mute b
+    pick (Ok f) h e = let z : ◌≡◌ {A = ℕ} 0 1 = cc in absurd (omega arith)
+    pick (Err q) h e = said-refused b (sym h)

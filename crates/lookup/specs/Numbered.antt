@@ -1,21 +1,29 @@
 -- The lookup over a set's members by their numbers in the directory, where a member is what its bytes are read as.
-use Rattle.std.specs.Prelude.{ℕ, zero, suc, ◌+◌, ◌≤◌, ◌≡◌, Bool, true, false, List, [], ◌∷◌, ◌++◌, length, eqb, if◌then◌else◌}
+use Rattle.std.specs.Prelude.{ℕ, zero, suc, ◌+◌, ◌≤◌, ◌≡◌, Bool, true, false, List, [], length, eqb, if◌then◌else◌, None, Some, Result, Ok, Err}
+use Rattle.std.specs.Prelude as std
 use Rattle.std.proofs.Math.Option.{Option, none, some}
-use Rattle.wire.specs.Bytes.{Bytes, ascii, part, first, is_some}
+use Rattle.wire.specs.Bytes.{Bytes, part, first, is_some}
 use Rattle.format.specs.Names.{apply, dropped}
 use Rattle.format.specs.Layouts.{Member, descriptor, null_descriptor, null_thunk, short, weak}
-use Rattle.format.specs.Library.{imp}
 use Rattle.format.specs.Reader.{span, read}
+use Rattle.format.specs.Refusals.{refusal}
 use Rattle.format.specs.Lookup.{symbols, among, offset_at, length_at, rank, entry, read_set}
 use Rattle.format.specs.declared.Span.{Span}
 use Rattle.format.specs.declared.Read.{Read}
 use Rattle.format.specs.declared.Read.TheVariants as R
 use Rattle.format.specs.declared.Looked.{Looked}
-use Rattle.format.specs.declared.Looked.TheVariants.{NotFound, Nowhere, Ordinal, Name, Refused}
-use Rattle.lookup.specs.declared.Sought.{Sought}
-use Rattle.lookup.specs.declared.Sought.TheVariants as S
+use Rattle.format.specs.declared.Looked.TheVariants.{NotFound, Nowhere, Ordinal, Name}
+use Rattle.format.specs.declared.Reason.TheVariants.{NotASet}
+use Rattle.format.specs.declared.Refusal.{Refusal}
 use Rattle.lookup.specs.declared.Lead.{Lead}
 use Rattle.lookup.specs.declared.Lead.TheVariants as L
+
+-- ---- what a part of the lookup answers where the bytes are a set as far as it looks; else the refusal
+abbrev pub if_set : {A : Type 0} → Bool → A → Result A Refusal
+if_set true a = Ok a
+if_set false a = Err (refusal NotASet 0)
+
+-- ---- the members
 
 -- the bytes of a member, and what they are read as
 unfoldable pub bytes_of : Bytes → ℕ → Bytes
@@ -32,15 +40,19 @@ rank_of none = 4
 rank_of (some m) = rank m
 
 -- the same, of what the reader answers
-unfoldable pub rank_read : Read → ℕ
+abbrev pub rank_read : Read → ℕ
 rank_read (R.Descriptor m c dll s) = 0
 rank_read (R.NullDescriptor m c s) = 1
 rank_read (R.NullThunk m s) = 2
 rank_read (R.ShortImport m o t k s dll x) = 3
 rank_read (R.WeakExternal m target alias) = 3
-rank_read (R.Refused number place) = 4
 
-unfoldable pub next_rank : ℕ → ℕ
+-- what a member is read as that has to have a rank
+unfoldable pub ranked_as : ℕ → Result Read Refusal → Result Read Refusal
+ranked_as r (Ok f) = if_set (eqb (rank_read f) r) f
+ranked_as r (Err q) = Err (refusal NotASet 0)
+
+abbrev pub next_rank : ℕ → ℕ
 next_rank r = if eqb r 3 then 3 else r + 1
 
 -- the n members from the i-th on are in order from a rank on
@@ -53,14 +65,6 @@ ranked_from b r i (suc n) = let later = ranked_from b (next_rank r) (i + 1) n in
 -- the symbols of a short import, by its machine, its kind and its symbol; the rest of it has no part in them
 abbrev pub short_symbols : ℕ → ℕ → Bytes → List Bytes
 short_symbols m k s = symbols (short m 0 k 0 s [] [])
-
--- the same, by d, of a machine that is not ARM64EC
-unfoldable pub plain_symbols : ℕ → Bytes → List Bytes
-plain_symbols k d = imp d ∷ (if eqb k 1 then [] else d ∷ [])
-
--- and of ARM64EC
-unfoldable pub hybrid_symbols : ℕ → Bytes → Bytes → List Bytes
-hybrid_symbols k s d = imp d ∷ (if eqb k 1 then [] else d ∷ (ascii "__imp_aux_" ++ d) ∷ s ∷ [])
 
 unfoldable pub symbols_of : Option Member → List Bytes
 symbols_of none = []
@@ -104,8 +108,8 @@ unfoldable pub answer_from : Bytes → ℕ → ℕ → Bytes → Looked
 answer_from b i n s = led_at b NotFound (step_from b i n) (definer_from b s i n)
 
 -- the same of any bytes that are laid out as a set
-unfoldable pub looked_from : Bytes → ℕ → ℕ → Bytes → Looked
-looked_from b i n s = if is_some (read_set b) then answer_from b i n s else Refused 17 0
+unfoldable pub looked_from : Bytes → ℕ → ℕ → Bytes → Result Looked Refusal
+looked_from b i n s = if_set (is_some (read_set b)) (answer_from b i n s)
 
 -- ---- places within a member
 
@@ -113,27 +117,14 @@ looked_from b i n s = if is_some (read_set b) then answer_from b i n s else Refu
 pub record Inside (s : Span) (n : ℕ) : Type 0 where
   pub inside : s.start + s.length ≤ n
 
--- ---- what the functions answer on the way
+-- ---- where a member leads, with the bytes of a target
 
--- a pass, by whether the members are in order and which is the first that defines the symbol
-unfoldable pub sought_of : Bool → Option ℕ → Sought
-sought_of false q = S.Refused
-sought_of true none = S.Nowhere
-sought_of true (some j) = S.At j
-
--- where a lead leads, by the member's bytes, as in `led_by`
-abbrev pub led_as : Looked → (Bytes → Looked) → Bytes → Lead → Looked
-led_as other weakly m (L.Answer l) = l
-led_as other weakly m (L.Target s) = weakly (part m s.start s.length)
-led_as other weakly m L.Nothing = other
-
--- a target is a part of so many bytes
-abbrev pub Within : ℕ → Lead → Type 0
-Within n (L.Answer l) = Unit {0}
-Within n (L.Target s) = Inside s n
-Within n L.Nothing = Unit {0}
+-- where a lead leads, as in `led_by`
+abbrev pub led_as : Looked → (Bytes → Looked) → std.Option Lead → Looked
+led_as other weakly (Some (L.Answer l)) = l
+led_as other weakly (Some (L.Target s)) = weakly s.now
+led_as other weakly None = other
 
 -- where the i-th member leads
-pub record Led (b : Bytes) (i : ℕ) (r : Lead) : Type 0 where
-  pub leads : (other : Looked) (weakly : Bytes → Looked) → led_as other weakly (bytes_of b i) r ≡ led_by other weakly (offset_at b i) (member_at b i)
-  pub within : Within (length (bytes_of b i)) r
+pub record Leads (b : Bytes) (i : ℕ) (r : std.Option Lead) : Type 0 where
+  pub leads : (other : Looked) (weakly : Bytes → Looked) → led_as other weakly r ≡ led_by other weakly (offset_at b i) (member_at b i)

@@ -9,206 +9,153 @@ pub mod sets; // sets.rt: the set, and its members by their numbers
 pub mod symbols; // symbols.rt: the symbols that a member defines
 pub mod entries; // entries.rt: what a short import answers
 
-ghost use Rattle.std.specs.Prelude.{◌-◌, ◌≤◌, ◌<◌, ◌≡◌, true};
+ghost use Rattle.std.specs.Prelude.{◌-◌, ◌≤◌, ◌<◌, ◌≡◌};
 ghost use Rattle.std.proofs.Math.Option.{some};
 ghost use Rattle.format.specs.declared.Looked.TheVariants.{NotFound};
-ghost use Rattle.format.specs.Lookup.{set_count, laid_out, lookup};
+ghost use Rattle.format.specs.Lookup.{set_count, lookup};
 ghost use Rattle.search.specs.Search.{place_of};
-ghost use Rattle.lookup.specs.Numbered.{ranked_from, definer_from, sought_of, Led, led_at, step_from, looked_from};
+ghost use Rattle.lookup.specs.Numbered.{ranked_from, definer_from, if_set, Leads, led_at, step_from, looked_from};
 
-use format::{Looked, Read, Span};
+use crate::sets::MemberSet;
+use format::{Looked, Read, Refusal};
 use layout::places::FIXED_MEMBERS;
-use search::Place;
 
 // The numbers of the lists.
 const FIRST_LIST: u32 = 1;
 
 const NATIVE_LIST: u32 = 2;
 
-// The refusal: the bytes are not a member set.
-const REFUSED: Looked = Looked::Refused {
-    number: 17,
-    place: 0,
-};
-
 // Where a weak external leads whose target is another: one step is followed.
 const AFTER_ONE_STEP: Looked = Looked::Nowhere;
 
-// What a pass finds: the first member that defines a symbol, by its number, or none; or that the bytes are not a member set.
+// Where a member leads: to an answer, or where the target of a weak external leads.
 #[derive(Clone, Copy)]
-pub enum Sought {
-    At(usize),
-    Nowhere,
-    Refused,
-}
-
-// Where a member leads: to an answer, to the target of a weak external, by its place in the member, or nowhere.
-#[derive(Clone, Copy)]
-pub enum Lead {
+pub enum Lead<'a> {
     Answer(Looked),
-    Target(Span),
-    Nothing,
+    Target(&'a [u8]),
 }
 
-// The first member, from one up to another, that defines a symbol. Each from the one to the last of the set is read, and has
-// to be a member of a list.
-fn seek(set: &[u8], from: usize, to: usize, symbol: &[u8]) -> Sought
-    requires set_value { laid_out set.now ≡ true }
-    requires to_bound { to ≤ set_count set.now }
-    ensures { result ≡ sought_of (ranked_from set.now 3 from (set_count set.now - from)) (definer_from set.now symbol.now from (to - from)) }
+// Where a member leads: a descriptor or a null thunk to nothing.
+fn leading(set: MemberSet, i: usize) -> Option<Lead>
+    requires { i < set_count set.bytes.now }
+    ensures { Leads set.entry.bytes.now i result }
 {
-    let n = sets::count(set);
-    let mut i = from;
-    while i < to {
-        let member = sets::member_at(set, i);
-        let said = reader::read(member);
-        if sets::rank(said) != sets::LISTED {
-            return Sought::Refused;
-        }
-        if symbols::defines(member, said, symbol) {
-            if sets::ranked(set, sets::LISTED, i + 1, n) {
-                return Sought::At(i);
-            }
-            return Sought::Refused;
-        }
-        i += 1;
-    }
-    if sets::ranked(set, sets::LISTED, i, n) {
-        return Sought::Nowhere;
-    }
-    Sought::Refused
-}
-
-// The first member, from one up to another, that defines a symbol.
-fn definer(set: &[u8], from: usize, to: usize, symbol: &[u8]) -> Place
-    requires set_value { laid_out set.now ≡ true }
-    requires from_le_to { (from ≤ to) × (to ≤ set_count set.now) }
-    ensures { result ≡ place_of (definer_from set.now symbol.now from (to - from)) }
-{
-    let mut i = from;
-    while i < to {
-        if symbols::bytes_define(sets::member_at(set, i), symbol) {
-            return Place::At(i);
-        }
-        i += 1;
-    }
-    Place::Nowhere
-}
-
-// Where a member leads.
-fn leading(set: &[u8], i: usize) -> Lead
-    requires set_value { laid_out set.now ≡ true }
-    requires i_bound { i < set_count set.now }
-    ensures { Led set.now i result }
-{
-    let member = sets::member_at(set, i);
-    match reader::read(member) {
+    let member = set.member_at(i);
+    match reader::read(member).ok()? {
         Read::ShortImport {
-            machine: _,
             ordinal,
             name_type,
-            import_type: _,
             symbol,
-            dll: _,
             export,
+            ..
         } => {
-            let at = sets::offset_at(set, i);
-            Lead::Answer(entries::entry(at, member, ordinal, name_type, symbol, export))
+            let at = set.offset_at(i);
+            Some(Lead::Answer(entries::entry(at, member, ordinal, name_type, symbol, export)))
         }
-        Read::WeakExternal {
-            machine: _,
-            target,
-            alias: _,
-        } => Lead::Target(target),
-        Read::Descriptor {
-            machine: _,
-            compat: _,
-            dll: _,
-            stem: _,
-        } => Lead::Nothing,
-        Read::NullDescriptor {
-            machine: _,
-            compat: _,
-            stem: _,
-        } => Lead::Nothing,
-        Read::NullThunk {
-            machine: _,
-            stem: _,
-        } => Lead::Nothing,
-        Read::Refused {
-            number: _,
-            place: _,
-        } => Lead::Nothing,
-    }
-}
-
-// Where the target of a weak external leads.
-fn follow(set: &[u8], from: usize, to: usize, target: &[u8]) -> Looked
-    requires set_value { laid_out set.now ≡ true }
-    requires from_le_to { (from ≤ to) × (to ≤ set_count set.now) }
-    ensures { result ≡ step_from set.now from (to - from) target.now }
-{
-    let Place::At(i) = definer(set, from, to, target) else {
-        return Looked::Nowhere;
-    };
-    match leading(set, i) {
-        Lead::Answer(looked) => looked,
-        Lead::Target(_) => AFTER_ONE_STEP,
-        Lead::Nothing => Looked::Nowhere,
-    }
-}
-
-// Where a symbol leads that a member, one of those from one up to another, defines.
-fn answer(set: &[u8], from: usize, to: usize, i: usize) -> Looked
-    requires set_value { laid_out set.now ≡ true }
-    requires from_le_to { (from ≤ to) × (to ≤ set_count set.now) × (i < set_count set.now) }
-    ensures { result ≡ led_at set.now NotFound (step_from set.now from (to - from)) (some i) }
-{
-    match leading(set, i) {
-        Lead::Answer(looked) => looked,
-        Lead::Target(target) => {
-            let member = sets::member_at(set, i);
-            let name = wire::part(member, target.start, target.length);
-            follow(set, from, to, name)
+        Read::WeakExternal { target, .. } => {
+            Some(Lead::Target(wire::part(member, target.start, target.length)))
         }
-        Lead::Nothing => Looked::NotFound,
+        Read::Descriptor { .. } | Read::NullDescriptor { .. } | Read::NullThunk { .. } => None,
     }
 }
 
-// Where a symbol leads among the members from one up to another, or that the bytes are not a member set.
-fn look(set: &[u8], from: usize, to: usize, symbol: &[u8]) -> Looked
-    requires set_value { laid_out set.now ≡ true }
-    requires le_from { (3 ≤ from) × (from ≤ to) × (to ≤ set_count set.now) }
-    ensures { result ≡ looked_from set.now from (to - from) symbol.now }
-{
-    if !sets::ranked(set, sets::FIRST_RANK, 0, from) {
-        return REFUSED;
+// A list of a member set: the members from one up to another.
+#[derive(Clone, Copy)]
+struct MemberList<'a> {
+    set: MemberSet<'a>,
+    from: usize,
+    to: usize,
+    ghost within: { (3 ≤ from) × (from ≤ to) × (to ≤ set_count set.bytes.now) },
+}
+
+impl MemberList<'_> {
+    // The first member of the list that defines a symbol. Each from its first to the last of the set is read, and has to be a
+    // member of a list.
+    fn seek(self, symbol: &[u8]) -> Result<Option<usize>, Refusal>
+        ensures { result ≡ if_set (ranked_from self.entry.set.bytes.now 3 self.entry.from (set_count self.entry.set.bytes.now - self.entry.from)) (place_of (definer_from self.entry.set.bytes.now symbol.now self.entry.from (self.entry.to - self.entry.from))) }
+    {
+        let n = self.set.count();
+        for i in self.from..self.to {
+            let member = self.set.member_at(i);
+            let said = sets::read_ranked(member, sets::LISTED)?;
+            if symbols::defines(member, said, symbol) {
+                self.set.check(sets::LISTED, i + 1, n)?;
+                return Ok(Some(i));
+            }
+        }
+        self.set.check(sets::LISTED, self.to, n)?;
+        Ok(None)
     }
-    match seek(set, from, to, symbol) {
-        Sought::At(i) => answer(set, from, to, i),
-        Sought::Nowhere => Looked::NotFound,
-        Sought::Refused => REFUSED,
+
+    // The first member of the list that defines a symbol.
+    fn definer(self, symbol: &[u8]) -> Option<usize>
+        ensures { result ≡ place_of (definer_from self.entry.set.bytes.now symbol.now self.entry.from (self.entry.to - self.entry.from)) }
+    {
+        (self.from..self.to).find(|&i| symbols::bytes_define(self.set.member_at(i), symbol))
+    }
+
+    // Where the target of a weak external leads.
+    fn follow(self, target: &[u8]) -> Looked
+        ensures { result ≡ step_from self.entry.set.bytes.now self.entry.from (self.entry.to - self.entry.from) target.now }
+    {
+        let Some(i) = self.definer(target) else {
+            return Looked::Nowhere;
+        };
+        match leading(self.set, i) {
+            Some(Lead::Answer(looked)) => looked,
+            Some(Lead::Target(_)) => AFTER_ONE_STEP,
+            None => Looked::Nowhere,
+        }
+    }
+
+    // Where a symbol leads that a member of the list defines.
+    fn answer(self, i: usize) -> Looked
+        requires { i < set_count self.set.bytes.now }
+        ensures { result ≡ led_at self.entry.set.bytes.now NotFound (step_from self.entry.set.bytes.now self.entry.from (self.entry.to - self.entry.from)) (some i) }
+    {
+        match leading(self.set, i) {
+            Some(Lead::Answer(looked)) => looked,
+            Some(Lead::Target(target)) => self.follow(target),
+            None => Looked::NotFound,
+        }
+    }
+
+    // Where a symbol leads in the list, or that the bytes are not a member set.
+    fn look(self, symbol: &[u8]) -> Result<Looked, Refusal>
+        ensures { result ≡ looked_from self.entry.set.bytes.now self.entry.from (self.entry.to - self.entry.from) symbol.now }
+    {
+        self.set.check(sets::FIRST_RANK, 0, self.from)?;
+        match self.seek(symbol)? {
+            Some(i) => Ok(self.answer(i)),
+            None => Ok(Looked::NotFound),
+        }
     }
 }
 
 // Where a symbol leads in list 1 or 2 of a member set; in another list nothing is found. The refusal of what is not a member
 // set comes first.
-pub fn lookup(set: &[u8], list: u32, symbol: &[u8]) -> Looked
+pub fn lookup(set: &[u8], list: u32, symbol: &[u8]) -> Result<Looked, Refusal>
     ensures { result ≡ lookup set.now list symbol.now }
 {
-    if !sets::laid_out(set) {
-        return REFUSED;
-    }
-    let n = sets::count(set);
-    let natives = FIXED_MEMBERS + sets::firsts(set);
+    let set = MemberSet::new(set)?;
+    let n = set.count();
+    let natives = FIXED_MEMBERS + set.firsts();
     if list == FIRST_LIST {
-        return look(set, FIXED_MEMBERS, natives, symbol);
+        let first = MemberList {
+            set,
+            from: FIXED_MEMBERS,
+            to: natives,
+        };
+        return first.look(symbol);
     }
     if list == NATIVE_LIST {
-        return look(set, natives, n, symbol);
+        let native = MemberList {
+            set,
+            from: natives,
+            to: n,
+        };
+        return native.look(symbol);
     }
-    if sets::ranked(set, sets::FIRST_RANK, 0, n) {
-        return Looked::NotFound;
-    }
-    REFUSED
+    set.check(sets::FIRST_RANK, 0, n)?;
+    Ok(Looked::NotFound)
 }

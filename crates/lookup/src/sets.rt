@@ -1,12 +1,21 @@
 // A member set: its header, its directory, and its members by their numbers.
-ghost use Rattle.std.specs.Prelude.{◌+◌, ◌-◌, ◌*◌, ◌≤◌, ◌<◌, ◌≡◌, true, length};
+ghost use Rattle.std.specs.Prelude.{◌+◌, ◌-◌, ◌*◌, ◌≤◌, ◌<◌, ◌≡◌, true, false, length, MatchResult};
 ghost use Rattle.wire.specs.Bytes.{u32_at};
 ghost use Rattle.format.specs.Library.{first_member_at};
+ghost use Rattle.format.specs.Refusals.{refusal};
+ghost use Rattle.format.specs.Reader.{read_fields};
+ghost use Rattle.format.specs.declared.Reason.TheVariants.{NotASet};
 ghost use Rattle.format.specs.Lookup.{offset_at, length_at, set_count, set_firsts, back_to_back, laid_out};
-ghost use Rattle.lookup.specs.Numbered.{bytes_of, rank_read, next_rank, ranked_from};
+ghost use Rattle.lookup.specs.Numbered.{bytes_of, rank_read, next_rank, ranked_from, if_set, ranked_as};
 
-use format::Read;
+use format::{Read, Reason, Refusal};
 use layout::places::{ENTRY_SIZE, FIXED_MEMBERS, SET_HEADER_SIZE};
+
+// The refusal: the bytes are not a member set.
+pub const REFUSED: Refusal = Refusal {
+    reason: Reason::NotASet,
+    place: 0,
+};
 
 // Where the fields of the header stand: how many members there are, how many of each list, and where the first stands.
 const COUNT: usize = 0;
@@ -35,24 +44,8 @@ fn field(set: &[u8], at: usize) -> usize
     wire::u32_at(set, at) as usize
 }
 
-// How many members there are.
-pub fn count(set: &[u8]) -> usize
-    requires { laid_out set.now ≡ true }
-    ensures { (result ≡ set_count set.now) × (result < 4294967296) }
-{
-    field(set, COUNT)
-}
-
-// How many of them are of the first list.
-pub fn firsts(set: &[u8]) -> usize
-    requires { laid_out set.now ≡ true }
-    ensures { (result ≡ set_firsts set.now) × (result < 4294967296) }
-{
-    field(set, FIRSTS)
-}
-
 // Where a member stands.
-pub fn offset_at(set: &[u8], i: usize) -> usize
+fn offset_at(set: &[u8], i: usize) -> usize
     requires { first_member_at (i + 1) ≤ length set.now }
     ensures { (result ≡ offset_at set.now i) × (result < 4294967296) }
 {
@@ -75,19 +68,17 @@ fn back_to_back(set: &[u8], at: usize, count: usize) -> bool
     ensures { result ≡ back_to_back set.now 0 at count }
 {
     let mut end = at;
-    let mut i = 0;
-    while i < count {
+    for i in 0..count {
         if offset_at(set, i) != end {
             return false;
         }
         end += length_at(set, i);
-        i += 1;
     }
     end == set.len()
 }
 
 // Whether bytes are laid out as a member set.
-pub fn laid_out(set: &[u8]) -> bool
+fn laid_out(set: &[u8]) -> bool
     ensures { result ≡ laid_out set.now }
 {
     if set.len() < SET_HEADER_SIZE {
@@ -110,55 +101,17 @@ pub fn laid_out(set: &[u8]) -> bool
     back_to_back(set, at, count)
 }
 
-// ---- the members
-
-// The bytes of a member.
-pub fn member_at(set: &[u8], i: usize) -> &[u8]
-    requires set_value { laid_out set.now ≡ true }
-    requires i_bound { i < set_count set.now }
-    ensures { (result.now ≡ bytes_of set.now i) × (offset_at set.now i + length result.now ≤ length set.now) }
-{
-    wire::part(set, offset_at(set, i), length_at(set, i))
-}
+// ---- the order of the members
 
 // Which place a member may take.
-pub fn rank(read: Read) -> u32
+fn rank(read: Read) -> u32
     ensures { result ≡ rank_read read }
 {
     match read {
-        Read::Descriptor {
-            machine: _,
-            compat: _,
-            dll: _,
-            stem: _,
-        } => FIRST_RANK,
-        Read::NullDescriptor {
-            machine: _,
-            compat: _,
-            stem: _,
-        } => 1,
-        Read::NullThunk {
-            machine: _,
-            stem: _,
-        } => 2,
-        Read::ShortImport {
-            machine: _,
-            ordinal: _,
-            name_type: _,
-            import_type: _,
-            symbol: _,
-            dll: _,
-            export: _,
-        } => LISTED,
-        Read::WeakExternal {
-            machine: _,
-            target: _,
-            alias: _,
-        } => LISTED,
-        Read::Refused {
-            number: _,
-            place: _,
-        } => 4,
+        Read::Descriptor { .. } => FIRST_RANK,
+        Read::NullDescriptor { .. } => 1,
+        Read::NullThunk { .. } => 2,
+        Read::ShortImport { .. } | Read::WeakExternal { .. } => LISTED,
     }
 }
 
@@ -173,21 +126,84 @@ fn next_rank(rank: u32) -> u32
     rank + 1
 }
 
-// Whether each member from one up to another is read, in order from a rank on: the fixed three, and those of the lists after
-// them.
-pub fn ranked(set: &[u8], first: u32, from: usize, to: usize) -> bool
-    requires set_value { laid_out set.now ≡ true }
-    requires first_bound { (first ≤ 3) × (to ≤ set_count set.now) }
-    ensures { result ≡ ranked_from set.now first from (to - from) }
+// What a member is read as that has to have a rank.
+pub fn read_ranked(member: &[u8], expected: u32) -> Result<Read, Refusal>
+    ensures { result ≡ ranked_as expected (read_fields member.now) }
 {
-    let mut expected = first;
-    let mut i = from;
-    while i < to {
-        if rank(reader::read(member_at(set, i))) != expected {
-            return false;
-        }
-        expected = next_rank(expected);
-        i += 1;
+    let Ok(read) = reader::read(member) else {
+        return Err(REFUSED);
+    };
+    if rank(read) != expected {
+        return Err(REFUSED);
     }
-    true
+    Ok(read)
+}
+
+// ---- the set
+
+// Bytes that are laid out as a member set.
+#[derive(Clone, Copy)]
+pub struct MemberSet<'a> {
+    pub bytes: &'a [u8],
+    ghost laid: { laid_out bytes.now ≡ true },
+}
+
+impl<'a> MemberSet<'a> {
+    // The set that bytes are laid out as.
+    pub fn new(bytes: &'a [u8]) -> Result<Self, Refusal>
+        ensures { MatchResult result (λ s. s.bytes.now ≡ bytes.now) (λ e. (e ≡ refusal NotASet 0) × (laid_out bytes.now ≡ false)) }
+    {
+        if !laid_out(bytes) {
+            return Err(REFUSED);
+        }
+        Ok(MemberSet { bytes })
+    }
+
+    // How many members there are.
+    pub fn count(self) -> usize
+        ensures { (result ≡ set_count self.entry.bytes.now) × (result < 4294967296) }
+    {
+        field(self.bytes, COUNT)
+    }
+
+    // How many of them are of the first list.
+    pub fn firsts(self) -> usize
+        ensures { (result ≡ set_firsts self.entry.bytes.now) × (result < 4294967296) }
+    {
+        field(self.bytes, FIRSTS)
+    }
+
+    // Where a member stands.
+    pub fn offset_at(self, i: usize) -> usize
+        requires { i < set_count self.bytes.now }
+        ensures { result ≡ offset_at self.entry.bytes.now i }
+    {
+        offset_at(self.bytes, i)
+    }
+
+    // The bytes of a member.
+    pub fn member_at(self, i: usize) -> &'a [u8]
+        requires { i < set_count self.bytes.now }
+        ensures { (result.now ≡ bytes_of self.entry.bytes.now i) × (offset_at self.entry.bytes.now i + length result.now ≤ length self.entry.bytes.now) }
+    {
+        wire::part(
+            self.bytes,
+            offset_at(self.bytes, i),
+            length_at(self.bytes, i),
+        )
+    }
+
+    // Each member from one up to another has to be read, in order from a rank on: the fixed three, and those of the lists after
+    // them.
+    pub fn check(self, first: u32, from: usize, to: usize) -> Result<(), Refusal>
+        requires { (first ≤ 3) × (to ≤ set_count self.bytes.now) }
+        ensures { result ≡ if_set (ranked_from self.entry.bytes.now first from (to - from)) tt }
+    {
+        let mut expected = first;
+        for i in from..to {
+            read_ranked(self.member_at(i), expected)?;
+            expected = next_rank(expected);
+        }
+        Ok(())
+    }
 }

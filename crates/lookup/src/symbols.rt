@@ -1,11 +1,12 @@
 // The symbols that a member defines, compared with one without building any.
-ghost use Rattle.std.specs.Prelude.{◌≡◌, false, ◌++◌};
+ghost use Rattle.std.specs.Prelude.{◌≡◌, false, ◌++◌, Ok};
 ghost use Rattle.wire.specs.Bytes.{same};
 ghost use Rattle.format.specs.Reader.{read, read_fields};
-ghost use Rattle.format.specs.Lookup.{among};
-ghost use Rattle.lookup.specs.Numbered.{short_symbols, plain_symbols, hybrid_symbols, symbols_of};
+ghost use Rattle.format.specs.Lookup.{shown, among};
+ghost use Rattle.lookup.specs.Numbered.{short_symbols, symbols_of};
 
 use coff::constants::IMAGE_FILE_MACHINE_ARM64EC;
+use coff::import::ImportType;
 use finds::strings::{SYMBOL_AT, WEAK_STRINGS_AT};
 use format::Read;
 use layout::places::WEAK_SYMBOLS;
@@ -20,7 +21,7 @@ use records::{FileHeader, ImportObjectHeader};
 const IMP_AUX_PREFIX: [u8; 10] = *b"__imp_aux_";
 
 // The kind of an import of data.
-const DATA: u16 = 1;
+const DATA: u16 = ImportType::Data as u16;
 
 // Whether s is a prefix and a name of two pieces.
 fn is_name(s: &[u8], prefix: &[u8], head: &[u8], tail: &[u8]) -> bool
@@ -31,23 +32,25 @@ fn is_name(s: &[u8], prefix: &[u8], head: &[u8], tail: &[u8]) -> bool
     wire::find(s, b, tail) == s.len()
 }
 
-// Whether s is one of the symbols of a short import whose symbol has two pieces.
-fn defines_plain(s: &[u8], kind: u16, head: &[u8], tail: &[u8]) -> bool
-    ensures { result ≡ among s.now (plain_symbols kind (head.now ++ tail.now)) }
+// The two pieces of the symbol that a short import shows: on ARM64EC demangled, where that succeeds.
+fn shown(machine: u16, symbol: &[u8]) -> (&[u8], &[u8])
+    ensures { result.0.now ++ result.1.now ≡ shown machine symbol.now }
 {
-    if is_name(s, &IMP_PREFIX, head, tail) {
-        return true;
+    if machine != IMAGE_FILE_MACHINE_ARM64EC {
+        return (symbol, b"");
     }
-    if kind == DATA {
-        return false;
+    match mangler::get_arm64ec_demangled_function_name(symbol) {
+        Some(Demangled::Dropped) => (&symbol[1..], b""),
+        Some(Demangled::Cut { at }) => (&symbol[..at], &symbol[at + mangler::TAG_LEN..]),
+        None => (symbol, b""),
     }
-    is_name(s, b"", head, tail)
 }
 
-// Whether s is one of an ARM64EC short import, whose symbol demangled has two pieces.
-fn defines_hybrid(s: &[u8], kind: u16, symbol: &[u8], head: &[u8], tail: &[u8]) -> bool
-    ensures { result ≡ among s.now (hybrid_symbols kind symbol.now (head.now ++ tail.now)) }
+// Whether s is one of the symbols of a short import, by its machine, its kind and its symbol.
+fn defines_short(s: &[u8], machine: u16, kind: u16, symbol: &[u8]) -> bool
+    ensures { result ≡ among s.now (short_symbols machine kind symbol.now) }
 {
+    let (head, tail) = shown(machine, symbol);
     if is_name(s, &IMP_PREFIX, head, tail) {
         return true;
     }
@@ -57,33 +60,13 @@ fn defines_hybrid(s: &[u8], kind: u16, symbol: &[u8], head: &[u8], tail: &[u8]) 
     if is_name(s, b"", head, tail) {
         return true;
     }
+    if machine != IMAGE_FILE_MACHINE_ARM64EC {
+        return false;
+    }
     if is_name(s, &IMP_AUX_PREFIX, head, tail) {
         return true;
     }
     wire::same(s, symbol)
-}
-
-// Whether s is one of the symbols of a short import, by its machine, its kind and its symbol.
-fn defines_short(s: &[u8], machine: u16, kind: u16, name: &[u8]) -> bool
-    ensures { result ≡ among s.now (short_symbols machine kind name.now) }
-{
-    if machine != IMAGE_FILE_MACHINE_ARM64EC {
-        return defines_plain(s, kind, name, b"");
-    }
-    let n = name.len();
-    match mangler::get_arm64ec_demangled_function_name(name) {
-        Demangled::Dropped => {
-            let rest = wire::part(name, 1, n - 1);
-            defines_hybrid(s, kind, name, rest, b"")
-        }
-        Demangled::Cut { at } => {
-            let after = at + mangler::TAG_LEN;
-            let head = wire::part(name, 0, at);
-            let tail = wire::part(name, after, n - after);
-            defines_hybrid(s, kind, name, head, tail)
-        }
-        Demangled::Fails => defines_hybrid(s, kind, name, name, b""),
-    }
 }
 
 // Whether a member, were it read, might define the symbol s. Its names alone are looked at.
@@ -109,49 +92,23 @@ fn may_define(member: &[u8], s: &[u8]) -> bool
 
 // Whether a member, by its bytes and what they are read as, defines the symbol s.
 pub fn defines(member: &[u8], said: Read, s: &[u8]) -> bool
-    requires { said ≡ read_fields member.now }
+    requires { Ok said ≡ read_fields member.now }
     ensures { result ≡ among s.now (symbols_of (read member.now)) }
 {
     match said {
-        Read::Descriptor {
-            machine: _,
-            compat: _,
-            dll: _,
-            stem: _,
-        } => false,
-        Read::NullDescriptor {
-            machine: _,
-            compat: _,
-            stem: _,
-        } => false,
-        Read::NullThunk {
-            machine: _,
-            stem: _,
-        } => false,
         Read::ShortImport {
             machine,
-            ordinal: _,
-            name_type: _,
             import_type,
             symbol,
-            dll: _,
-            export: _,
+            ..
         } => {
             let name = wire::part(member, symbol.start, symbol.length);
             defines_short(s, machine, import_type, name)
         }
-        Read::WeakExternal {
-            machine: _,
-            target: _,
-            alias,
-        } => {
-            let name = wire::part(member, alias.start, alias.length);
-            wire::same(s, name)
+        Read::WeakExternal { alias, .. } => {
+            wire::same(s, wire::part(member, alias.start, alias.length))
         }
-        Read::Refused {
-            number: _,
-            place: _,
-        } => false,
+        Read::Descriptor { .. } | Read::NullDescriptor { .. } | Read::NullThunk { .. } => false,
     }
 }
 
@@ -162,5 +119,8 @@ pub fn bytes_define(member: &[u8], s: &[u8]) -> bool
     if !may_define(member, s) {
         return false;
     }
-    defines(member, reader::read(member), s)
+    match reader::read(member) {
+        Ok(said) => defines(member, said, s),
+        Err(_) => false,
+    }
 }

@@ -10,7 +10,7 @@ ghost use Rattle.wire.specs.Writes.{Wrote};
 ghost use Rattle.format.specs.Layouts.{IMAGE-SCN-ALIGN-8BYTES, descriptor, null_descriptor, null_thunk, short, compat_stem, encode, thunk_name, null_thunk_bytes, weak_bytes};
 ghost use Rattle.coff.specs.Import.{kind_number, type_number};
 ghost use Rattle.coff.specs.Machines.{IsMachine};
-ghost use Rattle.members.specs.Members.{IsStem, short_of, weak_of};
+ghost use Rattle.members.specs.Members.{IsStem, weak_of};
 
 use coff::constants::{
     IMAGE_SCN_CNT_INITIALIZED_DATA, IMAGE_SCN_MEM_READ, IMAGE_SCN_MEM_WRITE,
@@ -195,65 +195,22 @@ pub fn create_short_import(
     requires head_len_bound { (length head.now ≤ 65536) × (length tail.now ≤ 65536) }
     ensures { Wrote out.old at (encode (short machine ordinal (kind_number import_type) (type_number name_type) sym.now dll.now (head.now ++ tail.now))) out.new result }
 {
+    let size = extents::short_size(sym, dll, name_type, head, tail);
     let number = name_type.number();
     let types = number * NAME_TYPE + import_type.number();
-    if number == EXPORT_AS {
-        return put_short_as(out, at, sym, dll, ordinal, types, head, tail, machine);
-    }
-    put_short(out, at, sym, dll, ordinal, types, machine)
-}
-
-// A short import without an export string, and with one.
-fn put_short(
-    out: &mut [u8],
-    at: usize,
-    sym: &[u8],
-    dll: &[u8],
-    ordinal: u16,
-    types: u16,
-    machine: u16,
-) -> usize
-    requires { (length sym.now ≤ 65536) × (length dll.now ≤ 65536) }
-    ensures { Wrote out.old at (short_of machine ordinal types (sym.now ∷ dll.now ∷ [])) out.new result }
-{
-    let size_of_data = (sym.len() + NUL + dll.len() + NUL) as u32;
     let a = ImportObjectHeader {
         machine,
-        size_of_data,
-        ordinal_or_hint: ordinal,
-        name_type: types,
-    }
-    .write(out, at);
-    let b = tables::put_string(out, a, sym);
-    tables::put_string(out, b, dll)
-}
-
-fn put_short_as(
-    out: &mut [u8],
-    at: usize,
-    sym: &[u8],
-    dll: &[u8],
-    ordinal: u16,
-    types: u16,
-    head: &[u8],
-    tail: &[u8],
-    machine: u16,
-) -> usize
-    requires sym_len_bound { (length sym.now ≤ 65536) × (length dll.now ≤ 65536) }
-    requires head_len_bound { (length head.now ≤ 65536) × (length tail.now ≤ 65536) }
-    ensures { Wrote out.old at (short_of machine ordinal types (sym.now ∷ dll.now ∷ (head.now ++ tail.now) ∷ [])) out.new result }
-{
-    let size_of_data = (sym.len() + NUL + dll.len() + NUL + head.len() + tail.len() + NUL) as u32;
-    let a = ImportObjectHeader {
-        machine,
-        size_of_data,
+        size_of_data: (size - ImportObjectHeader::SIZE) as u32,
         ordinal_or_hint: ordinal,
         name_type: types,
     }
     .write(out, at);
     let b = tables::put_string(out, a, sym);
     let c = tables::put_string(out, b, dll);
-    tables::put_pieces(out, c, head, tail)
+    if number == EXPORT_AS {
+        return tables::put_pieces(out, c, head, tail);
+    }
+    c
 }
 
 // A weak external: the alias `weak` resolves to sym. With imp both begin with `__imp_`.

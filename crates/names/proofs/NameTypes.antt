@@ -2,11 +2,12 @@
 use Rattle.std.specs.Prelude.{if◌then◌else◌}
 use Prim.Native.Nat.{ℕ, ◌-◌, ◌≤◌}
 use mathlib.Core.Path.{◌≡◌, refl, sym, ap, ◌∙◌}
-use mathlib.Core.Bool.{Bool, ◌&&◌, ◌||◌, not, true, false}
+use mathlib.Core.Bool.{Bool, ◌&&◌, not, true, false}
 use mathlib.Core.Logic.{◌⊎◌, ⊎_elim}
 use native.Mathlib.Omega.{arith}
 use lib.ListN.{length, take, drop, length-drop}
 use lib.Dec.{eqb}
+use Rattle.std.proofs.lemmas.List.{take_rest}
 use Rattle.coff.specs.declared.import.ImportNameType.{ImportNameType}
 use Rattle.coff.specs.declared.import.ImportNameType.TheVariants.{Ordinal, Name, NameNoprefix, NameUndecorate, NameExportas}
 use Rattle.coff.specs.Import.{type_number}
@@ -14,16 +15,10 @@ use Rattle.wire.specs.Bytes.{Bytes, same, starts, holds, before, part}
 use Rattle.wire.proofs.Bytes.{part-whole}
 use Rattle.wire.proofs.Parts.{part-last, take-before, length-before}
 use Rattle.format.specs.Machines.{i386}
-use Rattle.format.specs.Names.{question, at_sign, underscore, prefixed, noprefix, undecorate, apply, dropped, plain_type}
+use Rattle.format.specs.Names.{at_sign, underscore, prefixed, noprefix, undecorate, apply, dropped, plain_type}
 use Rattle.names.specs.Types.{Applied}
-use Rattle.search.proofs.Searches.{take-rest}
 
--- ---- the tests, by their outcomes
-
-pub prefixed-by : (s : Bytes) {a b c : Bool} → starts question s ≡ a → starts at_sign s ≡ b → starts underscore s ≡ c
-    → prefixed s ≡ (if a || b || c then 1 else 0)
-unfolding prefixed
-prefixed-by s e f g = rw (e, f, g)
+-- ---- plain_type
 
 -- by its parts: decorated, compared, and what is left
 pub plain-decorated : (machine : ℕ) (mingw : Bool) (base name : Bytes) → (starts underscore name && holds at_sign name && not mingw) ≡ true → 1 ≡ plain_type machine mingw base name
@@ -38,14 +33,6 @@ module _ (machine : ℕ) (mingw : Bool) (base name : Bytes) (e : (starts undersc
   pub plain-bare : {t : ℕ} → same base name ≡ true → t ≡ (if eqb machine i386 && starts underscore base then 2 else 1) → t ≡ plain_type machine mingw base name
   unfolding plain_type
   plain-bare f g = rw (e, f) g
-
-pub bare-by : (machine : ℕ) (base : Bytes) {i u : Bool} → eqb machine i386 ≡ i → starts underscore base ≡ u
-    → ◌≡◌ {A = ℕ} (if i && u then 2 else 1) (if eqb machine i386 && starts underscore base then 2 else 1)
-bare-by machine base e f = rw (e, f)
-
--- three tests in a row
-pub three-by : (a b c : Bool) {x y : Bool} → a ≡ x → b ≡ y → (a && b && c) ≡ (x && y && c)
-three-by a b c e f = rw (e, f)
 
 -- ---- Applied
 
@@ -65,7 +52,7 @@ module _ {t : ImportNameType} (s : Bytes) (n : ℕ) (e : n ≡ prefixed s) (h : 
       → Applied (type_number t) s (record { start = n; length = k })
   unfolding apply dropped undecorate noprefix part
   applied-undecorate {k} q f =
-      let g : k ≡ length (before at_sign (drop n s)) = f ∙ ap (λ (l : Bytes). length (before at_sign l)) (take-rest s n) in
+      let g : k ≡ length (before at_sign (drop n s)) = f ∙ ap (λ (l : Bytes). length (before at_sign l)) (take_rest s n) in
       rw q
       (record {
         start = e;

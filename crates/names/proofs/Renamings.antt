@@ -1,24 +1,23 @@
 -- Laws of renaming: the ways through `replace`, and what a located renaming says.
-use Rattle.std.specs.Prelude.{if◌then◌else◌}
+use Rattle.std.specs.Prelude.{None, Some, if◌then◌else◌}
+use Rattle.std.specs.Prelude as std
 use Prim.Native.Nat.{ℕ, ◌+◌, ◌-◌, ◌≤◌}
 use mathlib.Core.Path.{◌≡◌, refl, sym, ap, ◌∙◌}
-use mathlib.Core.Bool.{Bool, true, false, ◌&&◌, true≢false}
+use mathlib.Core.Bool.{Bool, true, false, ◌&&◌}
 use mathlib.Core.Option.{Option, none, some}
 use mathlib.Core.List.{◌++◌}
 use native.Mathlib.Omega.{arith}
+use Rattle.std.proofs.lemmas.List.{take_rest}
 use lib.ListN.{length, take, drop, length-append, length-take, length-drop}
 use Rattle.wire.specs.Bytes.{Bytes, starts, or_else}
 use Rattle.wire.specs.Writes.{Wrote}
 use Rattle.wire.proofs.Writes.{◌⨾◌, wrote-as}
 use Rattle.format.specs.Names.{underscore, find, splice, replace_once, replace}
 use Rattle.laws.proofs.Names.{find-within, replace-length}
-use Rattle.search.proofs.Searches.{take-rest}
-use Rattle.names.proofs.BuiltNames.{built-wrote}
-use Rattle.names.specs.Rename.{renamed_of, at_of, end_of, skip_of, Located, Room, Renamed}
-use Rattle.names.specs.Built.{Built}
+use Rattle.names.specs.Rename.{spliced_of, renamed_of, Located, Room, named_of, Renamed}
+use Rattle.names.specs.Built.{name_of, Built}
 use Rattle.names.specs.declared.built.BuiltName.{BuiltName}
-use Rattle.names.specs.declared.rename.Renaming.{Renaming}
-use Rattle.names.specs.declared.rename.Renaming.TheVariants.{Of, Fails}
+use Rattle.names.specs.declared.rename.Splice.{Splice}
 
 -- ---- replace
 
@@ -45,117 +44,111 @@ module _ (s from to : Bytes) where
     replace-again f g = rw (e, f, g)
 
 -- three parts, one after the other
-pub length-splice : (s to : Bytes) (at end skip : ℕ) → at ≤ length s
-    → length (take at s ++ drop skip to ++ drop end s) ≡ at + (length to - skip) + (length s - end)
-length-splice s to at end skip h =
+pub length-splice : (s to : Bytes) (p : Splice) → p.at ≤ length s
+    → length (spliced_of s to p) ≡ p.at + (length to - p.skip) + (length s - p.end)
+length-splice s to p h =
     omega (
       arith,
-      length-append (take at s ++ drop skip to) (drop end s),
-      length-append (take at s) (drop skip to),
-      length-take at s,
-      length-drop skip to,
-      length-drop end s,
+      length-append (take p.at s ++ drop p.skip to) (drop p.end s),
+      length-append (take p.at s) (drop p.skip to),
+      length-take p.at s,
+      length-drop p.skip to,
+      length-drop p.end s,
     )
 
--- laid one after the other, they are the built name
-pub splice-built : {s to : Bytes} {at end skip : ℕ} {l l₁ l₂ l₃ : Bytes} {a b n : ℕ} → Room s to at end skip → length l ≡ 8192
-    → Wrote l 0 (take at s) l₁ a → Wrote l₁ a (take (length to - skip) (drop skip to)) l₂ b → Wrote l₂ b (take (length s - end) (drop end s)) l₃ n
-    → Built (take at s ++ drop skip to ++ drop end s) (record { bytes = l₃; len = n })
-splice-built {s} {to} {at} {end} {skip} r e u v w =
-    built-wrote e (omega (arith, r.fits, length-splice s to at end skip r.before))
-    (u ⨾ wrote-as (take-rest to skip) v ⨾ wrote-as (take-rest s end) w)
+pub splice-fits : {s to : Bytes} {p : Splice} → Room s to p → length (spliced_of s to p) ≤ 8190
+splice-fits {s} {to} {p} r = omega (arith, r.fits, length-splice s to p r.before)
+
+-- laid one after the other, they are laid as one
+pub splice-wrote : (s to : Bytes) (p : Splice) {l l₁ l₂ l₃ : Bytes} {a b n : ℕ}
+    → Wrote l 0 (take p.at s) l₁ a → Wrote l₁ a (take (length to - p.skip) (drop p.skip to)) l₂ b → Wrote l₂ b (take (length s - p.end) (drop p.end s)) l₃ n
+    → Wrote l 0 (spliced_of s to p) l₃ n
+splice-wrote s to p u v w = u ⨾ wrote-as (take_rest to p.skip) v ⨾ wrote-as (take_rest s p.end) w
 
 -- ---- Located
 
 -- the wanted name said in another way
-pub located-as : {s to : Bytes} {v w : Option Bytes} {r : Renaming} → v ≡ w → Located s to v r → Located s to w r
-located-as e l = record { name = l.name ∙ e; ordered = l.ordered; inside = l.inside; skipped = l.skipped }
+pub located-as : {s to : Bytes} {v w : Option Bytes} {r : std.Option Splice} → v ≡ w → Located s to v r → Located s to w r
+located-as e l = record { name = l.name ∙ e; places = l.places }
 
-pub located-none : {s to : Bytes} {w : Option Bytes} → w ≡ none → Located s to w Fails
+pub located-none : {s to : Bytes} {w : Option Bytes} → w ≡ none → Located s to w None
 unfolding renamed_of
-located-none e = record { name = sym e; ordered = omega arith; inside = omega arith; skipped = omega arith }
+located-none e = record { name = sym e; places = tt }
 
 module _ (s from to : Bytes) (skip : ℕ) where
   pub located-at : (at : ℕ) → skip ≤ length to → find (drop skip from) s ≡ some at
-      → Located s to (replace_once s (drop skip from) (drop skip to)) (Of at (at + (length from - skip)) skip)
+      → Located s to (replace_once s (drop skip from) (drop skip to)) (Some (record { at = at; end = at + (length from - skip); skip = skip }))
   unfolding renamed_of replace_once splice
   located-at at h e =
       let l = find-within (drop skip from) s at e in
       let d = length-drop skip from in
       record {
         name = rw (e, d);
-        ordered = omega arith;
-        inside = omega arith;
-        skipped = h;
+        places = record { ordered = omega arith; inside = omega arith; skipped = h };
       }
 
-  pub located-nowhere : find (drop skip from) s ≡ none → Located s to (replace_once s (drop skip from) (drop skip to)) Fails
+  pub located-nowhere : find (drop skip from) s ≡ none → Located s to (replace_once s (drop skip from) (drop skip to)) None
   unfolding replace_once splice
   located-nowhere e = located-none (rw e)
 
 -- what its two cases say
-pub located-some : {s to : Bytes} {w : Option Bytes} {r : Renaming} {at end skip : ℕ} → Located s to w r → r ≡ Of at end skip
-    → w ≡ some (take at s ++ drop skip to ++ drop end s)
+pub located-some : {s to : Bytes} {w : Option Bytes} {p : Splice} → Located s to w (Some p) → w ≡ some (spliced_of s to p)
 unfolding renamed_of
-located-some {s} {to} l e = sym l.name ∙ ap (renamed_of s to) e
+located-some l = sym l.name
 
-pub located-fails : {s to : Bytes} {w : Option Bytes} {r : Renaming} → Located s to w r → r ≡ Fails → w ≡ none
+pub located-fails : {s to : Bytes} {w : Option Bytes} → Located s to w None → w ≡ none
 unfolding renamed_of
-located-fails {s} {to} l e = sym l.name ∙ ap (renamed_of s to) e
+located-fails l = sym l.name
 
 -- what the first search says of the whole
-module _ (s from to : Bytes) {r : Renaming} (l : Located s to (replace_once s from to) r) where
-  pub locate-first : {at end skip : ℕ} → r ≡ Of at end skip → Located s to (replace s from to) r
-  locate-first e = located-as (sym (replace-once s from to _ (located-some l e))) l
+module _ (s from to : Bytes) where
+  pub locate-first : {p : Splice} → Located s to (replace_once s from to) (Some p) → Located s to (replace s from to) (Some p)
+  locate-first l = located-as (sym (replace-once s from to _ (located-some l))) l
 
-  module _ (e : r ≡ Fails) where
-    pub locate-plain-from : starts underscore from ≡ false → Located s to (replace s from to) Fails
-    locate-plain-from f = located-none (replace-plain-from s from to (located-fails l e) f)
+  module _ (l : Located s to (replace_once s from to) None) where
+    pub locate-plain-from : starts underscore from ≡ false → Located s to (replace s from to) None
+    locate-plain-from f = located-none (replace-plain-from s from to (located-fails l) f)
 
-    pub locate-plain-to : starts underscore to ≡ false → Located s to (replace s from to) Fails
-    locate-plain-to f = located-none (replace-plain-to s from to (located-fails l e) f)
+    pub locate-plain-to : starts underscore to ≡ false → Located s to (replace s from to) None
+    locate-plain-to f = located-none (replace-plain-to s from to (located-fails l) f)
 
-    pub locate-again : {q : Renaming} → starts underscore from ≡ true → starts underscore to ≡ true
+    pub locate-again : {q : std.Option Splice} → starts underscore from ≡ true → starts underscore to ≡ true
         → Located s to (replace_once s (drop 1 from) (drop 1 to)) q → Located s to (replace s from to) q
-    locate-again f g m = located-as (sym (replace-again s from to (located-fails l e) f g)) m
+    locate-again f g m = located-as (sym (replace-again s from to (located-fails l) f g)) m
 
 -- ---- Renamed
 
 -- what was located fits
-module _ (s from to : Bytes) {r : Renaming} {at end skip : ℕ} (l : Located s to (replace s from to) r) (e : r ≡ Of at end skip) where
-  pub located-room : length s ≤ 4095 → 1 ≤ length from → length to ≤ 4095 → Room s to at end skip
+module _ (s from to : Bytes) {p : Splice} (l : Located s to (replace s from to) (Some p)) where
+  pub located-room : length s ≤ 4095 → 1 ≤ length from → length to ≤ 4095 → Room s to p
   located-room h k j =
-      let o = l.ordered in
-      let i = l.inside in
-      let p = l.skipped in
-      let a = ap at_of e in
-      let b = ap end_of e in
-      let c = ap skip_of e in
-      let m : at ≤ length s = omega arith in
+      let o = l.places in
+      let m : p.at ≤ length s = omega arith in
       record {
         before = m;
         after = omega arith;
         skipped = omega arith;
-        fits = omega (arith, replace-length s from to _ k (located-some l e), length-splice s to at end skip m);
+        fits = omega (arith, replace-length s from to _ k (located-some l), length-splice s to p m);
       }
 
-  pub renamed-some : {n : BuiltName} → length s ≤ 4095 → 1 ≤ length from → length to ≤ 4095 → Built (take at s ++ drop skip to ++ drop end s) n
-      → Renamed (replace s from to) (record { found = true; name = n })
+  pub renamed-some : {n : BuiltName} → length s ≤ 4095 → 1 ≤ length from → length to ≤ 4095 → Built (spliced_of s to p) n
+      → Renamed (replace s from to) (Some n)
   renamed-some {n} h k j b =
       record {
-        given = λ _. located-some l e ∙ ap some (sym b.name);
-        fails = λ q. absurd (true≢false q);
-        fits = omega (arith, replace-length s from to _ k (located-some l e), b.len);
-        within = b.within;
-        used = b.used;
+        name = ap some b.name ∙ sym (located-some l);
+        fits = omega (arith, replace-length s from to _ k (located-some l), b.len);
       }
 
-pub renamed-none : {w : Option Bytes} {n : BuiltName} → w ≡ none → n.len ≡ 0 → Renamed w (record { found = false; name = n })
-renamed-none {n = n} e h =
-    record {
-      given = λ q. absurd (true≢false (sym q));
-      fails = λ _. e;
-      fits = omega arith;
-      within = omega arith;
-      used = ap (λ (k : ℕ). length (take k n.bytes)) h ∙ sym h;
-    }
+pub renamed-none : {w : Option Bytes} → w ≡ none → Renamed w None
+renamed-none e = record { name = sym e; fits = tt }
+
+-- ---- the name that was made, by what holds it
+
+pub name-some : {q : Option Bytes} {r : std.Option BuiltName} {n : BuiltName} {p : Bytes} → Renamed q r → r ≡ std.Some n → p ≡ name_of n → q ≡ some p
+name-some h e f = sym h.name ∙ ap named_of e ∙ ap some (sym f)
+
+pub name-none : {q : Option Bytes} {r : std.Option BuiltName} → Renamed q r → r ≡ std.None → q ≡ none
+name-none h e = sym h.name ∙ ap named_of e
+
+pub name-few : {q : Option Bytes} {r : std.Option BuiltName} {n : BuiltName} → Renamed q r → r ≡ std.Some n → n.len ≤ 8189
+name-few h e = rw e at h.fits

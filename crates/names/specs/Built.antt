@@ -7,10 +7,8 @@ use Rattle.names.specs.declared.built.BuiltName.{BuiltName}
 abbrev pub name_of : BuiltName → Bytes
 name_of n = take n.len n.bytes
 
--- it holds b. The last two fields are what lending its used part, `&bytes[..len]`, asks for.
+-- it holds b
 pub record Built (b : Bytes) (n : BuiltName) : Type 0 where
   pub name : name_of n ≡ b
   pub len : n.len ≡ length b
   pub fits : n.len ≤ 8190
-  pub within : n.len ≤ length n.bytes
-  pub used : length (name_of n) ≡ n.len

@@ -1,13 +1,33 @@
 // A name of up to 8,190 bytes held with its length. It is filled in place, by renaming and by ARM64EC mangling alone.
 ghost use Rattle.std.specs.Prelude.{◌≡◌, ◌≤◌, length, replicate};
-ghost use Rattle.wire.specs.Bytes.{same};
 ghost use Rattle.wire.specs.Writes.{Wrote};
-ghost use Rattle.names.specs.Built.{name_of};
 
+// The scope paper binds this form: a struct of a byte array and its length, by value.
 #[derive(Clone, Copy)]
 pub struct BuiltName {
     pub bytes: [u8; 8192],
     pub len: usize,
+    pub ghost within: { len ≤ length bytes },
+}
+
+impl BuiltName {
+    ghost use Rattle.wire.specs.Bytes.{same};
+    ghost use Rattle.names.specs.Built.{name_of};
+
+    // Its used part.
+    pub fn as_slice(&self) -> &[u8]
+        ensures bytes { result.now ≡ name_of self.now }
+        ensures len { length result.now ≡ self.now.len }
+    {
+        &self.bytes[..self.len]
+    }
+
+    // Whether it is s. Only its used part is compared.
+    pub fn equals(&self, s: &[u8]) -> bool
+        ensures { result ≡ same (name_of self.now) s.now }
+    {
+        wire::same(self.as_slice(), s)
+    }
 }
 
 // A fresh one: zero throughout, with nothing used.
@@ -26,14 +46,4 @@ pub fn lay(bytes: &mut [u8; 8192], at: usize, s: &[u8]) -> usize
     ensures { Wrote bytes.old at s.now bytes.new result }
 {
     wire::put(bytes, at, s)
-}
-
-// Whether a built name is s. Only its used part is compared.
-pub fn equals(n: BuiltName, s: &[u8]) -> bool
-    requires { n.len ≤ 8192 }
-    ensures { result ≡ same (name_of n) s.now }
-{
-    let b = n.bytes;
-    let k = n.len;
-    wire::same(&b[..k], s)
 }

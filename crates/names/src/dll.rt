@@ -1,44 +1,34 @@
 // The DLL name.
 ghost use Rattle.std.specs.Prelude.{◌≡◌};
+ghost use Rattle.std.specs.List.{list_any};
 ghost use Rattle.format.specs.Names.{barred_dll};
-ghost use Rattle.names.specs.Dll.{Stem, separates, separated};
+ghost use Rattle.names.specs.Dll.{IsLastDot, Stem, separates};
 
 // How long a name that is dots alone may be.
 const DOTS: usize = 2;
+
+// Where the last dot stands.
+fn last_dot(dll: &[u8]) -> Option<usize>
+    ensures { IsLastDot dll.now result }
+{
+    dll.iter().rposition(|&x| x == b'.')
+}
 
 // How long the stem is: the bytes before the last dot; all of them where there is none, or only a leading one.
 pub fn stem(dll: &[u8]) -> usize
     ensures { Stem dll.now result }
 {
-    let mut i = dll.len();
-    while 1 < i {
-        if dll[i - 1] == b'.' {
-            return i - 1;
-        }
-        i -= 1;
+    match last_dot(dll) {
+        Some(at) if 0 < at => at,
+        _ => dll.len(),
     }
-    dll.len()
 }
 
-// Whether a byte is `/`, `\` or `:`.
-fn separates(x: u8) -> bool
-    ensures { result ≡ separates x }
-{
-    (x == b'/') | (x == b'\\') | (x == b':')
-}
-
-// Whether a byte of a DLL name is one of these.
+// Whether a byte of a DLL name is `/`, `\` or `:`.
 fn separated(dll: &[u8]) -> bool
-    ensures { result ≡ separated dll.now }
+    ensures { result ≡ list_any separates dll.now }
 {
-    let mut i = 0;
-    while i < dll.len() {
-        if separates(dll[i]) {
-            return true;
-        }
-        i += 1;
-    }
-    false
+    dll.iter().any(|x| matches!(x, b'/' | b'\\' | b':'))
 }
 
 // Whether it is `.` or `..`, or holds `/`, `\` or `:`.

@@ -12,19 +12,14 @@ use format::Span;
 use search::starts_with;
 
 // How many bytes noprefix drops: one leading `?`, `@` or `_`.
+#[tactic(auto, unfolding(format::specs::Names::prefixed, wire::specs::Bytes::starts))]
 fn ltrim1(name: &[u8]) -> usize
     ensures { (result ≡ prefixed name.now) × (result ≤ length name.now) }
 {
-    if starts_with(name, b'?') {
-        return 1;
+    match name.first() {
+        Some(b'?' | b'@' | b'_') => 1,
+        _ => 0,
     }
-    if starts_with(name, b'@') {
-        return 1;
-    }
-    if starts_with(name, b'_') {
-        return 1;
-    }
-    0
 }
 
 // A type applied to a name: the part of the name that is left.
@@ -57,23 +52,15 @@ pub fn apply_name_type(t: ImportNameType, name: &[u8]) -> Span
 fn decorated(name: &[u8], mingw: bool) -> bool
     ensures { result ≡ (starts underscore name.now && holds at_sign name.now && not mingw) }
 {
-    if !starts_with(name, b'_') {
-        return false;
-    }
-    if !wire::holds(name, b'@') {
-        return false;
-    }
-    !mingw
+    starts_with(name, b'_') && wire::holds(name, b'@') && !mingw
 }
 
 // The type of an undecorated name that is its own base.
 fn bare_type(base: &[u8], machine: u16) -> ImportNameType
     ensures { type_number result ≡ (if eqb machine i386 && starts underscore base.now then 2 else 1) }
 {
-    if machine == IMAGE_FILE_MACHINE_I386 {
-        if starts_with(base, b'_') {
-            return ImportNameType::NameNoprefix;
-        }
+    if machine == IMAGE_FILE_MACHINE_I386 && starts_with(base, b'_') {
+        return ImportNameType::NameNoprefix;
     }
     ImportNameType::Name
 }

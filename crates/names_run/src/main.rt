@@ -7,6 +7,7 @@ mod rules; // rules.rt: a row's question put to the proved functions
 
 ghost use Rattle.std.specs.Prelude.{◌≡◌, length};
 
+use crate::table::{Rule, Tally};
 use std::io;
 
 // Room for the table.
@@ -17,20 +18,16 @@ fn buffer() -> [u8; 65536]
 }
 
 // The line of one rule.
-fn print_tally(rt: &impl Print, t: &[u8], op: u8, label: &str) -> io::Result<()> {
-    let told = table::go_through(t, op);
-    let cases = told.cases;
-    let differ = told.differ;
-    println!(rt; "{label}: {cases} cases, {differ} differ")
+fn print_tally(rt: &impl Print, t: &[u8], rule: Rule) -> io::Result<()> {
+    let Tally { cases, differ } = table::go_through(t, rule);
+    println!(rt; "{rule}: {cases} cases, {differ} differ")
 }
 
 fn print_tallies(rt: &impl Print, t: &[u8]) -> io::Result<()> {
-    print_tally(rt, t, table::REPLACE, "replace")?;
-    print_tally(rt, t, table::STEM, "stem")?;
-    print_tally(rt, t, table::DEMANGLE, "demangle")?;
-    print_tally(rt, t, table::MANGLE, "mangle")?;
-    print_tally(rt, t, table::TYPE, "name type")?;
-    print_tally(rt, t, table::WANTED, "wanted name")
+    for rule in Rule::ALL {
+        print_tally(rt, t, rule)?;
+    }
+    Ok(())
 }
 
 fn run(rt: &impl Print, t: &[u8]) -> io::Result<()> {

@@ -8,7 +8,8 @@ ghost use Rattle.names.specs.Mangler.{mangling_of};
 ghost use Rattle.names_run.specs.Told.{told, verdict_of, giving_type};
 
 use coff::import::ImportNameType;
-use names::{built, dll, mangler, rename, types};
+use names::mangler::{Demangled, Mangling};
+use names::{dll, mangler, rename, types};
 
 // The verdicts on a name that may be made.
 const NOT_MADE: u8 = 0;
@@ -38,15 +39,13 @@ pub fn replace(s: &[u8], from: &[u8], to: &[u8], verdict: u8, made: &[u8]) -> bo
     if LONGEST < to.len() {
         return false;
     }
-    let r = rename::replace(s, from, to);
-    if !r.found {
+    let Some(name) = rename::replace(s, from, to) else {
         return verdict == NOT_MADE;
-    }
+    };
     if verdict != MADE {
         return false;
     }
-    let name = r.name;
-    built::equals(name, made)
+    name.equals(made)
 }
 
 // Whether the stem of a DLL name is what the Rust says.
@@ -101,9 +100,9 @@ pub fn demangle(name: &[u8], verdict: u8, made: &[u8]) -> bool
     ensures { result ≡ true → demangle name.now ≡ told verdict made.now }
 {
     match mangler::get_arm64ec_demangled_function_name(name) {
-        mangler::Demangled::Dropped => is_dropped(name, verdict, made),
-        mangler::Demangled::Cut { at } => is_cut(name, at, verdict, made),
-        mangler::Demangled::Fails => verdict == NOT_MADE,
+        Some(Demangled::Dropped) => is_dropped(name, verdict, made),
+        Some(Demangled::Cut { at }) => is_cut(name, at, verdict, made),
+        None => verdict == NOT_MADE,
     }
 }
 
@@ -117,8 +116,7 @@ fn is_prefixed(name: &[u8], verdict: u8, made: &[u8]) -> bool
     if LONGEST < name.len() {
         return false;
     }
-    let m = mangler::mangled(name);
-    built::equals(m, made)
+    mangler::mangled(name).equals(made)
 }
 
 // Whether a name is mangled as the Rust says.
@@ -126,9 +124,9 @@ pub fn mangle(name: &[u8], verdict: u8, made: &[u8]) -> bool
     ensures { result ≡ true → verdict ≡ verdict_of (mangling_of name.now) }
 {
     match mangler::get_arm64ec_mangled_function_name(name) {
-        mangler::Mangling::Prefix => is_prefixed(name, verdict, made),
-        mangler::Mangling::Mangled => verdict == MANGLED,
-        mangler::Mangling::Fails => verdict == FAILS,
+        Some(Mangling::Prefix) => is_prefixed(name, verdict, made),
+        Some(Mangling::Mangled) => verdict == MANGLED,
+        None => verdict == FAILS,
     }
 }
 

@@ -1,5 +1,5 @@
 -- Laws of keys: the last record whose import has a key is the last import that answers, as the definition has it over the exports.
-use Rattle.std.specs.Prelude.{if◌then◌else◌}
+use Rattle.std.specs.Prelude.{if◌then◌else◌, Ok, Err, None, Some}
 use Prim.Native.Nat.{ℕ, zero, suc, ◌+◌}
 use mathlib.Core.Path.{◌≡◌, refl, sym, ap, ◌∙◌}
 use mathlib.Core.Bool.{Bool, true, false}
@@ -17,9 +17,10 @@ use Rattle.format.specs.Plan.{Plan, public_name, choose, plan_public, plan}
 use Rattle.format.specs.Library.{answers_to, last_answering}
 use Rattle.laws.proofs.Plans.{choice-final}
 use Rattle.coff.specs.Import.{type_number}
-use Rattle.plans.specs.Shape.{shaped}
+use Rattle.plans.specs.Shape.{short_of, planned}
 use Rattle.plans.specs.Keys.{key_at, last_in}
-use Rattle.plans.specs.declared.Shape.TheVariants as H
+use Rattle.plans.specs.declared.Short.{Short}
+use Rattle.format.specs.declared.Reason.{Reason}
 
 -- ---- one record
 
@@ -29,19 +30,19 @@ unfolding plan_public
 public-final machine mingw e [] f x t m h = cc
 public-final machine mingw e (c ∷ cs) f x t m h = sym (choice-final machine e (c ∷ cs) f x t (choose machine mingw e (c ∷ cs)) (ne_eqb machine arm64ec m) h)
 
-pub key-short : (machine : ℕ) (mingw : Bool) (e : Export) (p w : Bytes) (h : Bool) (t : _) (s : _) (r : Bool) → (machine ≡ arm64ec → ⊥)
-    → shaped e p (H.Short h t s) ≡ plan_public machine mingw e (some p) → r ≡ same (apply (type_number t) p) w → r ≡ answers_to w (plan_public machine mingw e (some p))
-unfolding shaped answers_to
-key-short machine mingw e p w h t s r m g k =
-    let f : (if h then hash ∷ p else p) ≡ p = public-final machine mingw e p _ _ _ m (sym g) in
+pub key-short : (machine : ℕ) (mingw : Bool) (e : Export) (p w : Bytes) (s : Short) (r : Bool) → (machine ≡ arm64ec → ⊥)
+    → planned e p (Ok (Some s)) ≡ plan_public machine mingw e (some p) → r ≡ same (apply (type_number s.name_type) p) w → r ≡ answers_to w (plan_public machine mingw e (some p))
+unfolding planned short_of answers_to
+key-short machine mingw e p w s r m g k =
+    let f : (if s.hashed then hash ∷ p else p) ≡ p = public-final machine mingw e p _ _ _ m (sym g) in
     rw (← g, f) k
 
-pub key-deferred : (e : Export) (p w : Bytes) (q : Plan) → shaped e p H.Deferred ≡ q → false ≡ answers_to w q
-unfolding shaped answers_to
+pub key-deferred : (e : Export) (p w : Bytes) (q : Plan) → planned e p (Ok None) ≡ q → false ≡ answers_to w q
+unfolding planned answers_to
 key-deferred e p w q g = rw (← g)
 
-pub key-refused : (n : ℕ) (e : Export) (p w : Bytes) (q : Plan) → shaped e p (H.Refused n) ≡ q → false ≡ answers_to w q
-unfolding shaped answers_to
+pub key-refused : (n : Reason) (e : Export) (p w : Bytes) (q : Plan) → planned e p (Err n) ≡ q → false ≡ answers_to w q
+unfolding planned answers_to
 key-refused n e p w q g = rw (← g)
 
 module _ (machine : ℕ) (mingw : Bool) (b w : Bytes) (k : ℕ) where

@@ -1,5 +1,5 @@
 -- Laws of choices and plans: each answer by the facts that lead to it.
-use Rattle.std.specs.Prelude.{if◌then◌else◌}
+use Rattle.std.specs.Prelude.{if◌then◌else◌, None, Some}
 use Prim.Native.Nat.{ℕ}
 use mathlib.Core.Path.{◌≡◌, refl, sym, ap, ap₂, ◌∙◌}
 use mathlib.Core.Bool.{Bool, true, false, ◌||◌, not}
@@ -14,7 +14,13 @@ use Rattle.format.specs.Exports.{Export, field_at, absent_at, bytes_at, string_a
 use Rattle.format.specs.Names.{hash, question, apply, plain_type, tagged, demangle}
 use Rattle.format.specs.Plan as P
 use Rattle.format.specs.Plan.{base, kind, free, choose_import, choose_named, choose, exporting, mangled, plan_choice, plan_public}
-use Rattle.names.specs.Mangler.{mangling_of}
+use Rattle.format.specs.declared.Reason.TheVariants.{NoPublicName, NotMangled, NotDemangled}
+use Rattle.coff.specs.Import.{kind_number}
+use Rattle.coff.specs.declared.import.ImportType.{ImportType}
+use Rattle.coff.specs.declared.import.ImportType.TheVariants.{Code, Data, Const}
+use Rattle.names.specs.Mangler.{mangling_of, demangled_of}
+use Rattle.names.specs.declared.mangler.Demangled.{Demangled}
+use Rattle.names.specs.declared.mangler.Demangled.TheVariants as D
 use Rattle.names.specs.declared.mangler.Mangling.TheVariants as M
 use Rattle.lists.proofs.Records.{base-name, base-symbol}
 use Rattle.plans.specs.Shape.{other_import}
@@ -91,49 +97,54 @@ import-there b k w a e = string-some b (field_at k 3) a ∙ ap some (sym e)
 -- ---- mangling
 
 -- what mangling comes to, told apart by `mangling_of`
-pub mangled-prefix : (f : Bool) (p x : Bytes) (t : ℕ) → mangling_of p ≡ M.Prefix → mangled f p t x ≡ (if f then P.plain (hash ∷ p) 4 p else P.plain (hash ∷ p) t x)
+pub mangled-prefix : (f : Bool) (p x : Bytes) (t : ℕ) → mangling_of p ≡ Some M.Prefix → mangled f p t x ≡ (if f then P.plain (hash ∷ p) 4 p else P.plain (hash ∷ p) t x)
 unfolding mangling_of mangled
 mangled-prefix f p x t e = pick (not (starts question p || starts hash p)) (starts hash p || tagged p) e
   where
-    pick : (a b : Bool) → (if a then M.Prefix else if b then M.Mangled else M.Fails) ≡ M.Prefix
+    pick : (a b : Bool) → (if a then Some M.Prefix else if b then Some M.Mangled else None) ≡ Some M.Prefix
         → (if a then (if f then P.plain (hash ∷ p) 4 p else P.plain (hash ∷ p) t x)
-        else if b then (if f then exporting p (demangle p) else P.plain p t x) else (if f then P.refused 13 else P.plain p t x))
+        else if b then (if f then exporting p (demangle p) else P.plain p t x) else (if f then P.refused NotMangled else P.plain p t x))
         ≡ (if f then P.plain (hash ∷ p) 4 p else P.plain (hash ∷ p) t x)
     pick true b e = refl
     pick false true e = cc
     pick false false e = cc
 
-pub mangled-already : (f : Bool) (p x : Bytes) (t : ℕ) → mangling_of p ≡ M.Mangled → mangled f p t x ≡ (if f then exporting p (demangle p) else P.plain p t x)
+pub mangled-already : (f : Bool) (p x : Bytes) (t : ℕ) → mangling_of p ≡ Some M.Mangled → mangled f p t x ≡ (if f then exporting p (demangle p) else P.plain p t x)
 unfolding mangling_of mangled
 mangled-already f p x t e = pick (not (starts question p || starts hash p)) (starts hash p || tagged p) e
   where
-    pick : (a b : Bool) → (if a then M.Prefix else if b then M.Mangled else M.Fails) ≡ M.Mangled
+    pick : (a b : Bool) → (if a then Some M.Prefix else if b then Some M.Mangled else None) ≡ Some M.Mangled
         → (if a then (if f then P.plain (hash ∷ p) 4 p else P.plain (hash ∷ p) t x)
-        else if b then (if f then exporting p (demangle p) else P.plain p t x) else (if f then P.refused 13 else P.plain p t x))
+        else if b then (if f then exporting p (demangle p) else P.plain p t x) else (if f then P.refused NotMangled else P.plain p t x))
         ≡ (if f then exporting p (demangle p) else P.plain p t x)
     pick true b e = cc
     pick false true e = refl
     pick false false e = cc
 
-pub mangled-cannot : (f : Bool) (p x : Bytes) (t : ℕ) → mangling_of p ≡ M.Fails → mangled f p t x ≡ (if f then P.refused 13 else P.plain p t x)
+pub mangled-cannot : (f : Bool) (p x : Bytes) (t : ℕ) → mangling_of p ≡ None → mangled f p t x ≡ (if f then P.refused NotMangled else P.plain p t x)
 unfolding mangling_of mangled
 mangled-cannot f p x t e = pick (not (starts question p || starts hash p)) (starts hash p || tagged p) e
   where
-    pick : (a b : Bool) → (if a then M.Prefix else if b then M.Mangled else M.Fails) ≡ M.Fails
+    pick : (a b : Bool) → (if a then Some M.Prefix else if b then Some M.Mangled else None) ≡ None
         → (if a then (if f then P.plain (hash ∷ p) 4 p else P.plain (hash ∷ p) t x)
-        else if b then (if f then exporting p (demangle p) else P.plain p t x) else (if f then P.refused 13 else P.plain p t x))
-        ≡ (if f then P.refused 13 else P.plain p t x)
+        else if b then (if f then exporting p (demangle p) else P.plain p t x) else (if f then P.refused NotMangled else P.plain p t x))
+        ≡ (if f then P.refused NotMangled else P.plain p t x)
     pick true b e = cc
     pick false true e = cc
     pick false false e = refl
 
-pub exporting-none : (p : Bytes) → demangle p ≡ none → exporting p (demangle p) ≡ P.refused 14
+pub exporting-none : (p : Bytes) → demangle p ≡ none → exporting p (demangle p) ≡ P.refused NotDemangled
 unfolding exporting
 exporting-none p e = rw e
 
-pub exporting-some : (p x : Bytes) → demangle p ≡ some x → exporting p (demangle p) ≡ P.plain p 4 (get_or (demangle p) [])
+exporting-some : (p x : Bytes) → demangle p ≡ some x → exporting p (demangle p) ≡ P.plain p 4 (get_or (demangle p) [])
 unfolding exporting
 exporting-some p x e = rw e
+
+pub exporting-shown : (p : Bytes) (d : Demangled) → demangle p ≡ demangled_of p (Some d) → exporting p (demangle p) ≡ P.plain p 4 (get_or (demangle p) [])
+unfolding demangled_of
+exporting-shown p D.Dropped e = exporting-some p _ e
+exporting-shown p (D.Cut at) e = exporting-some p _ e
 
 -- ---- the plan
 
@@ -145,11 +156,17 @@ pub plan-data : (machine : ℕ) (e : Export) (p x : Bytes) (t : ℕ) → machine
 unfolding plan_choice
 plan-data machine e p x t m k = rw (eq-eqb _ _ m, ne_eqb _ _ k)
 
+-- the kind 0 is that of code alone
+pub code-is : (t : ImportType) → kind_number t ≡ 0 → t ≡ Code
+code-is Code e = refl
+code-is Data e = absurd (omega (arith, e))
+code-is Const e = absurd (omega (arith, e))
+
 pub plan-off : (machine : ℕ) (e : Export) (p x : Bytes) (t : ℕ) → (machine ≡ arm64ec → ⊥) → P.plain p t x ≡ plan_choice machine e p (P.typed t x)
 unfolding plan_choice
 plan-off machine e p x t m = rw (ne_eqb _ _ m)
 
-pub public-empty : (machine : ℕ) (mingw : Bool) (e : Export) (p : Bytes) → length p ≡ 0 → P.refused 12 ≡ plan_public machine mingw e (some p)
+pub public-empty : (machine : ℕ) (mingw : Bool) (e : Export) (p : Bytes) → length p ≡ 0 → P.refused NoPublicName ≡ plan_public machine mingw e (some p)
 unfolding plan_public
 public-empty machine mingw e [] h = refl
 public-empty machine mingw e (x ∷ xs) h = absurd (omega arith)

@@ -1,7 +1,8 @@
 -- Laws of a record's public name, and of the rows 11 to 14 by it.
-use Rattle.std.specs.Prelude.{if◌then◌else◌}
+use Rattle.std.specs.Prelude.{if◌then◌else◌, Ok, Err}
+use Rattle.std.specs.Prelude as std
 use Prim.Native.Nat.{ℕ, ◌+◌, ◌≤◌, ◌<◌}
-use mathlib.Core.Path.{◌≡◌, refl}
+use mathlib.Core.Path.{◌≡◌, refl, ◌∙◌}
 use mathlib.Core.Bool.{Bool, true, false}
 use mathlib.Core.Option.{Option, none, some, get_or}
 use mathlib.Core.List.{[], ◌∷◌}
@@ -14,11 +15,14 @@ use Rattle.format.specs.Machines.{arm64ec}
 use Rattle.format.specs.Exports.{Export, names_at, offset_of, length_of, field_at, absent_at, bytes_at, string_at, is_private, export_at}
 use Rattle.format.specs.Names.{replace}
 use Rattle.format.specs.Plan.{Plan, Choice, typed, later, base, renamed, public_name, choose, plan_choice, plan_public, plan}
-use Rattle.format.specs.Refusals.{earliest, plan_rows, name_rows}
-use Rattle.format.specs.declared.Checked.TheVariants.{Fine, Refused}
+use Rattle.format.specs.Refusals.{refusal, earliest, plan_rows, name_rows}
+use Rattle.format.specs.declared.Reason.{Reason}
+use Rattle.format.specs.declared.Reason.TheVariants.{NotRenamed}
+use Rattle.names.specs.Rename.{Renamed}
+use Rattle.names.specs.declared.built.BuiltName.{BuiltName}
 use Rattle.lists.specs.Held.{Held}
-use Rattle.plans.specs.Shape.{shaped}
-use Rattle.plans.specs.declared.Shape.TheVariants as H
+use Rattle.plans.specs.Shape.{short_of, planned}
+use Rattle.plans.specs.declared.Short.{Short}
 use Rattle.plans.proofs.Choices.{string-some, string-none}
 
 -- ---- the public name
@@ -27,10 +31,15 @@ pub public-base : (b : Bytes) (k : ℕ) → absent_at b (field_at k 1) ≡ true 
 unfolding public_name renamed export_at
 public-base b k a = rw (string-none b (field_at k 1) a)
 
-pub public-renamed : (b : Bytes) (k : ℕ) (s n x : Bytes) (q : Option Bytes) → absent_at b (field_at k 1) ≡ false → s ≡ base (export_at b k) → n ≡ bytes_at b (field_at k 0)
-    → x ≡ bytes_at b (field_at k 1) → replace s n x ≡ q → public_name (export_at b k) ≡ q
+public-renamed : (b : Bytes) (k : ℕ) {s n x : Bytes} → absent_at b (field_at k 1) ≡ false → s ≡ base (export_at b k) → n ≡ bytes_at b (field_at k 0)
+    → x ≡ bytes_at b (field_at k 1) → replace s n x ≡ public_name (export_at b k)
 unfolding public_name renamed export_at
-public-renamed b k s n x q a e f g h = rw (string-some b (field_at k 1) a, ← e, ← f, ← g) h
+public-renamed b k a e f g = rw (string-some b (field_at k 1) a, ← e, ← f, ← g) refl
+
+-- by what replacing answers
+pub renamed-by : (b : Bytes) (k : ℕ) {s n x : Bytes} {r : std.Option BuiltName} → absent_at b (field_at k 1) ≡ false → s ≡ base (export_at b k) → n ≡ bytes_at b (field_at k 0)
+    → x ≡ bytes_at b (field_at k 1) → Renamed (replace s n x) r → Renamed (public_name (export_at b k)) r
+renamed-by b k a e f g h = record { name = h.name ∙ public-renamed b k a e f g; fits = h.fits }
 
 -- ---- how long a record's strings are
 
@@ -49,7 +58,7 @@ base-length b k h = pick (absent_at b (field_at k 2))
 -- ---- rows 11 to 14
 
 module _ (machine : ℕ) (mingw : Bool) (b : Bytes) (k : ℕ) where
-  pub names-private : is_private (export_at b k) ≡ true → Fine ≡ earliest (name_rows machine mingw b k)
+  pub names-private : is_private (export_at b k) ≡ true → Ok tt ≡ earliest (name_rows machine mingw b k)
   unfolding name_rows earliest
   names-private h = rw h
 
@@ -58,29 +67,26 @@ module _ (machine : ℕ) (mingw : Bool) (b : Bytes) (k : ℕ) where
   unfolding name_rows plan
   names-by q h e = rw (h, e)
 
-  pub names-11 : is_private (export_at b k) ≡ false → public_name (export_at b k) ≡ none → Refused 11 k ≡ earliest (name_rows machine mingw b k)
+  pub names-11 : is_private (export_at b k) ≡ false → public_name (export_at b k) ≡ none → Err (refusal NotRenamed k) ≡ earliest (name_rows machine mingw b k)
   unfolding plan_rows earliest plan_public
   names-11 h e = names-by none h e
 
 -- off ARM64EC a public name that is not empty is not refused
-pub rows-native : (k machine : ℕ) (mingw : Bool) (e : Export) (p : Bytes) → (machine ≡ arm64ec → ⊥) → (length p ≡ 0 → ⊥) → Fine ≡ earliest (plan_rows k (plan_public machine mingw e (some p)))
+pub rows-native : (k machine : ℕ) (mingw : Bool) (e : Export) (p : Bytes) → (machine ≡ arm64ec → ⊥) → (length p ≡ 0 → ⊥) → Ok tt ≡ earliest (plan_rows k (plan_public machine mingw e (some p)))
 unfolding plan_public plan_choice plan_rows earliest
 rows-native k machine mingw e [] m h = absurd (h refl)
 rows-native k machine mingw e (c ∷ cs) m h = pick (choose machine mingw e (c ∷ cs))
   where
-    pick : (q : Choice) → Fine ≡ earliest (plan_rows k (plan_choice machine e (c ∷ cs) q))
+    pick : (q : Choice) → Ok tt ≡ earliest (plan_rows k (plan_choice machine e (c ∷ cs) q))
     pick (later w) = refl
     pick (typed t x) = rw (ne_eqb machine arm64ec m)
 
--- a plan's refusal, by what its shape is
-pub rows-short : (k : ℕ) (e : Export) (p : Bytes) (q : Plan) (h : Bool) (t : _) (s : _) → shaped e p (H.Short h t s) ≡ q → Fine ≡ earliest (plan_rows k q)
-unfolding shaped plan_rows earliest
-rows-short k e p q h t s g = rw (← g)
+-- a plan's refusal, by what was planned
+pub rows-planned : (k : ℕ) (e : Export) (p : Bytes) (q : Plan) (s : std.Option Short) → planned e p (Ok s) ≡ q → Ok tt ≡ earliest (plan_rows k q)
+unfolding planned short_of plan_rows earliest
+rows-planned k e p q (std.Some s) g = rw (← g)
+rows-planned k e p q std.None g = rw (← g)
 
-pub rows-deferred : (k : ℕ) (e : Export) (p : Bytes) (q : Plan) → shaped e p H.Deferred ≡ q → Fine ≡ earliest (plan_rows k q)
-unfolding shaped plan_rows earliest
-rows-deferred k e p q g = rw (← g)
-
-pub rows-refused : (k n : ℕ) (e : Export) (p : Bytes) (q : Plan) → shaped e p (H.Refused n) ≡ q → Refused n k ≡ earliest (plan_rows k q)
-unfolding shaped plan_rows earliest
+pub rows-refused : (k : ℕ) (n : Reason) (e : Export) (p : Bytes) (q : Plan) → planned e p (Err n) ≡ q → Err (refusal n k) ≡ earliest (plan_rows k q)
+unfolding planned plan_rows earliest
 rows-refused k n e p q g = rw (← g)

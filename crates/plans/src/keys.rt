@@ -8,9 +8,8 @@ ghost use Rattle.format.specs.Library.{answers_to};
 ghost use Rattle.lists.specs.Held.{Held};
 ghost use Rattle.plans.specs.Keys.{key_at};
 
-use crate::{Shape, gives, plan};
+use crate::{gives, plan, public};
 use lists::record;
-use names::rename;
 
 // Whether the import of a record under its public name has the wanted key.
 fn key_named(b: &[u8], k: u32, machine: u16, mingw: bool, public: &[u8], wanted: &[u8]) -> bool
@@ -19,13 +18,9 @@ fn key_named(b: &[u8], k: u32, machine: u16, mingw: bool, public: &[u8], wanted:
     ensures { result ≡ answers_to wanted.now (plan_public machine mingw (export_at b.now k) (some public.now)) }
 {
     match plan(b, k, machine, mingw, public) {
-        Shape::Short {
-            hashed: _,
-            name_type,
-            export: _,
-        } => gives(name_type, public, wanted),
-        Shape::Deferred => false,
-        Shape::Refused { number: _ } => false,
+        Ok(Some(short)) => gives(short.name_type, public, wanted),
+        Ok(None) => false,
+        Err(_) => false,
     }
 }
 
@@ -41,17 +36,8 @@ pub fn key_is(b: &[u8], k: u32, machine: u16, mingw: bool, wanted: &[u8]) -> boo
     if record::absent(b, k, record::EXT_NAME) {
         return key_named(b, k, machine, mingw, record::base(b, k), wanted);
     }
-    let r = rename::replace(
-        record::base(b, k),
-        record::string(b, k, record::NAME),
-        record::string(b, k, record::EXT_NAME),
-    );
-    let found = r.found;
-    if !found {
+    let Some(name) = public::renamed(b, k) else {
         return false;
-    }
-    let name = r.name;
-    let bytes = name.bytes;
-    let n = name.len;
-    key_named(b, k, machine, mingw, &bytes[..n], wanted)
+    };
+    key_named(b, k, machine, mingw, name.as_slice(), wanted)
 }

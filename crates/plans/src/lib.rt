@@ -2,6 +2,7 @@
 // export string are said by where they come from, so that nothing is copied where a name is a part of the list.
 #![tactic(auto)]
 
+pub mod public; // public.rt: the public name of an export that is renamed
 pub mod check; // check.rt: refusals 11 to 14
 pub mod keys; // keys.rt: whether an import answers to a name
 
@@ -13,11 +14,13 @@ ghost use Rattle.format.specs.Names.{apply, plain_type};
 ghost use Rattle.format.specs.Plan.{typed, base, free, choose_import, choose, mangled, plan_choice, plan_public};
 ghost use Rattle.coff.specs.Import.{type_number};
 ghost use Rattle.lists.specs.Held.{Held};
-ghost use Rattle.plans.specs.Shape.{source_of, other_import, choice_of, shaped};
+ghost use Rattle.plans.specs.Shape.{source_of, other_import, choice_of, short_of, short_or_refused, planned};
 
 use coff::constants::{IMAGE_FILE_MACHINE_ARM64EC, IMAGE_FILE_MACHINE_I386};
 use coff::import::{ImportNameType, ImportType};
+use format::Reason;
 use lists::record;
+use names::mangler::Mangling;
 use names::{mangler, types};
 
 // Where an export string comes from.
@@ -33,29 +36,19 @@ pub enum Source {
     Demangled,
 }
 
-// The name type with its export string, or that the export is deferred.
+// A name type with its export string.
 #[derive(Clone, Copy)]
-pub enum Choice {
-    Typed {
-        name_type: ImportNameType,
-        export: Source,
-    },
-    Later,
+pub struct Typed {
+    pub name_type: ImportNameType,
+    pub export: Source,
 }
 
-// The plan of an export: a short import, whose final name is the public name with `#` before it or without, one that is deferred, or a
-// refusal.
+// A short import that is written at once: its final name is the public name with `#` before it or without.
 #[derive(Clone, Copy)]
-pub enum Shape {
-    Short {
-        hashed: bool,
-        name_type: ImportNameType,
-        export: Source,
-    },
-    Deferred,
-    Refused {
-        number: u32,
-    },
+pub struct Short {
+    pub hashed: bool,
+    pub name_type: ImportNameType,
+    pub export: Source,
 }
 
 // Whether a name type applied to a name gives another.
@@ -69,42 +62,42 @@ pub fn gives(t: ImportNameType, name: &[u8], wanted: &[u8]) -> bool
 }
 
 // The choice of an export with an import_name that no type of I386 gives.
-fn choose_other(machine: u16, public: &[u8], wanted: &[u8]) -> Choice
+fn choose_other(machine: u16, public: &[u8], wanted: &[u8]) -> Option<Typed>
     ensures { (e : Export) → e.import_name ≡ some wanted.now → choice_of e public.now result ≡ other_import machine public.now wanted.now }
 {
     if machine == IMAGE_FILE_MACHINE_ARM64EC {
-        return Choice::Typed {
+        return Some(Typed {
             name_type: ImportNameType::NameExportas,
             export: Source::ImportName,
-        };
+        });
     }
     if wire::same(public, wanted) {
-        return Choice::Typed {
+        return Some(Typed {
             name_type: ImportNameType::Name,
             export: Source::Nothing,
-        };
+        });
     }
-    Choice::Later
+    None
 }
 
 // The choice of an export with an import_name: by the public name, and without an alias if it can be.
-fn choose_import(machine: u16, public: &[u8], wanted: &[u8]) -> Choice
+fn choose_import(machine: u16, public: &[u8], wanted: &[u8]) -> Option<Typed>
     ensures { (e : Export) → e.import_name ≡ some wanted.now → choice_of e public.now result ≡ choose_import machine public.now wanted.now }
 {
     if machine != IMAGE_FILE_MACHINE_I386 {
         return choose_other(machine, public, wanted);
     }
     if gives(ImportNameType::NameUndecorate, public, wanted) {
-        return Choice::Typed {
+        return Some(Typed {
             name_type: ImportNameType::NameUndecorate,
             export: Source::Nothing,
-        };
+        });
     }
     if gives(ImportNameType::NameNoprefix, public, wanted) {
-        return Choice::Typed {
+        return Some(Typed {
             name_type: ImportNameType::NameNoprefix,
             export: Source::Nothing,
-        };
+        });
     }
     choose_other(machine, public, wanted)
 }
@@ -127,29 +120,29 @@ fn plain_type(b: &[u8], k: u32, machine: u16, mingw: bool) -> ImportNameType
 }
 
 // The choice of an export under its public name.
-fn choose(b: &[u8], k: u32, machine: u16, mingw: bool, public: &[u8]) -> Choice
+fn choose(b: &[u8], k: u32, machine: u16, mingw: bool, public: &[u8]) -> Option<Typed>
     requires { Held b.now k }
     ensures { choice_of (export_at b.now k) public.now result ≡ choose machine mingw (export_at b.now k) public.now }
 {
     if record::is_noname(b, k) {
-        return Choice::Typed {
+        return Some(Typed {
             name_type: ImportNameType::Ordinal,
             export: Source::Nothing,
-        };
+        });
     }
     if !record::absent(b, k, record::EXPORT_AS) {
-        return Choice::Typed {
+        return Some(Typed {
             name_type: ImportNameType::NameExportas,
             export: Source::ExportAs,
-        };
+        });
     }
     if !record::absent(b, k, record::IMPORT_NAME) {
         return choose_import(machine, public, record::string(b, k, record::IMPORT_NAME));
     }
-    Choice::Typed {
+    Some(Typed {
         name_type: plain_type(b, k, machine, mingw),
         export: Source::Nothing,
-    }
+    })
 }
 
 // Whether neither noname nor an export string is set.
@@ -157,103 +150,98 @@ fn is_free(t: ImportNameType) -> bool
     ensures { result ≡ free (type_number t) }
 {
     match t {
-        ImportNameType::Ordinal => false,
-        ImportNameType::Name => true,
-        ImportNameType::NameNoprefix => true,
-        ImportNameType::NameUndecorate => true,
-        ImportNameType::NameExportas => false,
+        ImportNameType::Ordinal | ImportNameType::NameExportas => false,
+        ImportNameType::Name | ImportNameType::NameNoprefix | ImportNameType::NameUndecorate =>
+            true,
     }
 }
 
 // An ARM64EC code import that is free exports the unprefixed name.
-fn mangle_free(public: &[u8]) -> Shape
-    ensures { (e : Export) (t : ℕ) (x : Bytes) → shaped e public.now result ≡ mangled true public.now t x }
+fn mangle_free(public: &[u8]) -> Result<Short, Reason>
+    ensures { (e : Export) (t : ℕ) (x : Bytes) → short_or_refused e public.now result ≡ mangled true public.now t x }
 {
-    match mangler::get_arm64ec_mangled_function_name(public) {
-        mangler::Mangling::Prefix => Shape::Short {
+    let Some(mangling) = mangler::get_arm64ec_mangled_function_name(public) else {
+        return Err(Reason::NotMangled);
+    };
+    match mangling {
+        Mangling::Prefix => Ok(Short {
             hashed: true,
             name_type: ImportNameType::NameExportas,
             export: Source::Public,
-        },
-        mangler::Mangling::Mangled => match mangler::get_arm64ec_demangled_function_name(public) {
-            mangler::Demangled::Fails => Shape::Refused { number: 14 },
-            mangler::Demangled::Dropped => Shape::Short {
+        }),
+        Mangling::Mangled => {
+            let Some(_) = mangler::get_arm64ec_demangled_function_name(public) else {
+                return Err(Reason::NotDemangled);
+            };
+            Ok(Short {
                 hashed: false,
                 name_type: ImportNameType::NameExportas,
                 export: Source::Demangled,
-            },
-            mangler::Demangled::Cut { at: _ } => Shape::Short {
-                hashed: false,
-                name_type: ImportNameType::NameExportas,
-                export: Source::Demangled,
-            },
-        },
-        mangler::Mangling::Fails => Shape::Refused { number: 13 },
+            })
+        }
     }
 }
 
 // One that is not keeps its type and its export string.
-fn mangle_set(public: &[u8], name_type: ImportNameType, export: Source) -> Shape
-    ensures { (e : Export) → shaped e public.now result ≡ mangled false public.now (type_number name_type) (source_of e public.now «export») }
+fn mangle_set(public: &[u8], choice: Typed) -> Short
+    ensures { (e : Export) → short_of e public.now result ≡ mangled false public.now (type_number choice.name_type) (source_of e public.now choice.«export») }
 {
-    match mangler::get_arm64ec_mangled_function_name(public) {
-        mangler::Mangling::Prefix => Shape::Short {
-            hashed: true,
-            name_type,
-            export,
-        },
-        mangler::Mangling::Mangled => Shape::Short {
-            hashed: false,
-            name_type,
-            export,
-        },
-        mangler::Mangling::Fails => Shape::Short {
-            hashed: false,
-            name_type,
-            export,
-        },
+    let hashed = match mangler::get_arm64ec_mangled_function_name(public) {
+        Some(Mangling::Prefix) => true,
+        Some(Mangling::Mangled) => false,
+        None => false,
+    };
+    Short {
+        hashed,
+        name_type: choice.name_type,
+        export: choice.export,
     }
 }
 
 // The plan of a typed choice.
-fn shape_typed(
+fn short_typed(
     b: &[u8],
     k: u32,
     machine: u16,
     public: &[u8],
-    name_type: ImportNameType,
-    export: Source,
-) -> Shape
+    choice: Typed,
+) -> Result<Short, Reason>
     requires { Held b.now k }
-    ensures { shaped (export_at b.now k) public.now result ≡ plan_choice machine (export_at b.now k) public.now (typed (type_number name_type) (source_of (export_at b.now k) public.now «export»)) }
+    ensures { short_or_refused (export_at b.now k) public.now result ≡ plan_choice machine (export_at b.now k) public.now (typed (type_number choice.name_type) (source_of (export_at b.now k) public.now choice.«export»)) }
 {
     if machine == IMAGE_FILE_MACHINE_ARM64EC {
-        if record::import_type(b, k).number() == 0 {
-            if is_free(name_type) {
+        if let ImportType::Code = record::import_type(b, k) {
+            if is_free(choice.name_type) {
                 return mangle_free(public);
             }
-            return mangle_set(public, name_type, export);
+            return Ok(mangle_set(public, choice));
         }
     }
-    Shape::Short {
+    Ok(Short {
         hashed: false,
-        name_type,
-        export,
-    }
+        name_type: choice.name_type,
+        export: choice.export,
+    })
 }
 
-// The plan of an export under its public name.
-pub fn plan(b: &[u8], k: u32, machine: u16, mingw: bool, public: &[u8]) -> Shape
+// The plan of an export under its public name: a short import that is written at once, or none where the export is deferred; or why it is
+// refused.
+pub fn plan(
+    b: &[u8],
+    k: u32,
+    machine: u16,
+    mingw: bool,
+    public: &[u8],
+) -> Result<Option<Short>, Reason>
     requires { Held b.now k }
-    ensures { shaped (export_at b.now k) public.now result ≡ plan_public machine mingw (export_at b.now k) (some public.now) }
+    ensures { planned (export_at b.now k) public.now result ≡ plan_public machine mingw (export_at b.now k) (some public.now) }
 {
     if public.len() == 0 {
-        return Shape::Refused { number: 12 };
+        return Err(Reason::NoPublicName);
     }
-    match choose(b, k, machine, mingw, public) {
-        Choice::Typed { name_type, export } => shape_typed(
-            b, k, machine, public, name_type, export,
-        ),
-        Choice::Later => Shape::Deferred,
-    }
+    let Some(choice) = choose(b, k, machine, mingw, public) else {
+        return Ok(None);
+    };
+    let short = short_typed(b, k, machine, public, choice)?;
+    Ok(Some(short))
 }

@@ -1,5 +1,5 @@
 -- Which names, machines and types are admitted, by the outcomes of the tests.
-use Rattle.std.specs.Prelude.{if◌then◌else◌}
+use Rattle.std.specs.Prelude.{None, Some, if◌then◌else◌}
 use Prim.Native.Nat.{ℕ, ◌-◌, ◌≤◌, ◌<◌}
 use mathlib.Core.Path.{◌≡◌, refl, sym, ap, ◌∙◌, subst}
 use mathlib.Core.Bool.{Bool, true, false, ◌&&◌, not}
@@ -15,7 +15,6 @@ use Rattle.format.specs.Names.{barred_dll}
 use Rattle.format.specs.Reader.{between, admits_dll, ordinary, text_at}
 use Rattle.coff.specs.Machines.{machine_of, row_of}
 use Rattle.coff.specs.declared.machines.Machine.{Machine}
-use Rattle.coff.specs.declared.machines.Found.TheVariants.{Known, Unknown}
 use Rattle.reader.specs.Answers.{Clear, ordinary_of, Ordinary, admits_names, admits_types}
 
 -- ---- texts
@@ -67,11 +66,11 @@ names-by s dll e f = rw (e, f)
 
 -- ---- machines
 
-pub ordinary-hybrid : (n : ℕ) → hybrid n ≡ true → Unknown ≡ ordinary_of n
+pub ordinary-hybrid : (n : ℕ) → hybrid n ≡ true → None ≡ ordinary_of n
 unfolding ordinary_of
 ordinary-hybrid n e = rw e (pick (known n))
   where
-    pick : (k : Bool) → Unknown ≡ (if k && false then Known (row_of n) else Unknown)
+    pick : (k : Bool) → None ≡ (if k && false then Some (row_of n) else None)
     pick true = refl
     pick false = refl
 
@@ -79,27 +78,27 @@ pub ordinary-other : (n : ℕ) → hybrid n ≡ false → machine_of n ≡ ordin
 unfolding ordinary_of machine_of
 ordinary-other n e = rw e (pick (known n))
   where
-    pick : (k : Bool) → (if k then Known (row_of n) else Unknown) ≡ (if k && true then Known (row_of n) else Unknown)
+    pick : (k : Bool) → (if k then Some (row_of n) else None) ≡ (if k && true then Some (row_of n) else None)
     pick true = refl
     pick false = refl
 
 -- what the answer says: an ordinary machine of the number, or that the number is not ordinary
-pub ordinary-known : (n : ℕ) (m : Machine) → ordinary_of n ≡ Known m → (m.number ≡ n) × Ordinary m
+pub ordinary-known : (n : ℕ) (m : Machine) → ordinary_of n ≡ Some m → (m.number ≡ n) × Ordinary m
 unfolding ordinary_of
 ordinary-known n m e = pick (ordinary n) refl e
   where
-    pick : (t : Bool) → ordinary n ≡ t → (if t then Known (row_of n) else Unknown) ≡ Known m → (m.number ≡ n) × Ordinary m
+    pick : (t : Bool) → ordinary n ≡ t → (if t then Some (row_of n) else None) ≡ Some m → (m.number ≡ n) × Ordinary m
     pick true o e =
         let q : row_of n ≡ m = cc in
         subst (λ (x : Machine). (x.number ≡ n) × Ordinary x) q
         (refl, record { machine = record { known = and-first (known n) (not (hybrid n)) o; relocation = refl; wide = refl }; ordinary = o })
     pick false o e = let z : ◌≡◌ {A = ℕ} 0 1 = cc in absurd (omega arith)
 
-pub ordinary-unknown : (n : ℕ) → ordinary_of n ≡ Unknown → ordinary n ≡ false
+pub ordinary-unknown : (n : ℕ) → ordinary_of n ≡ None → ordinary n ≡ false
 unfolding ordinary_of
 ordinary-unknown n e = pick (ordinary n) e
   where
-    pick : (t : Bool) → (if t then Known (row_of n) else Unknown) ≡ Unknown → t ≡ false
+    pick : (t : Bool) → (if t then Some (row_of n) else None) ≡ None → t ≡ false
     pick true e = let z : ◌≡◌ {A = ℕ} 0 1 = cc in absurd (omega arith)
     pick false e = refl
 

@@ -1,5 +1,5 @@
 -- What is answered for a member, by whether it is admitted and where looking for its bytes ends.
-use Rattle.std.specs.Prelude.{if◌then◌else◌}
+use Rattle.std.specs.Prelude.{if◌then◌else◌, Result, Ok, Err}
 use Prim.Native.Nat.{ℕ, ◌+◌, ◌*◌, ◌/◌, ◌%◌, ◌≤◌, ◌<◌}
 use mathlib.Core.Path.{◌≡◌, refl, sym, ap, ◌∙◌}
 use mathlib.Core.Bool.{Bool, true, false, ◌&&◌, not}
@@ -17,8 +17,11 @@ use Rattle.format.specs.Machines.{known, arm64x}
 use Rattle.format.specs.Names.{stem}
 use Rattle.format.specs.Layouts.{Member, descriptor, null_descriptor, null_thunk, short, weak, dll_at, import_header_size, descriptor_name, null_name, compat_stem, encode}
 use Rattle.format.specs.Reader.{between, admits_dll, admits_stem, admits_export, ordinary, admits, thunk_strings_at, weak_strings_at, right, span, absent, stem_span, fields, fields_or_refused}
+use Rattle.format.specs.Refusals.{refusal}
+use Rattle.format.specs.declared.Reason.TheVariants.{NotAMember}
+use Rattle.format.specs.declared.Refusal.{Refusal}
 use Rattle.format.specs.declared.Read.{Read}
-use Rattle.format.specs.declared.Read.TheVariants.{Descriptor, NullDescriptor, NullThunk, ShortImport, WeakExternal, Refused}
+use Rattle.format.specs.declared.Read.TheVariants.{Descriptor, NullDescriptor, NullThunk, ShortImport, WeakExternal}
 use Rattle.laws.proofs.ReadBack.{between-true}
 use Rattle.members.specs.Members.{short_of}
 use Rattle.members.proofs.Cases.{short-plain, short-exported}
@@ -27,30 +30,30 @@ use Rattle.reader.specs.Answers.{answer, admits_names, admits_types}
 -- ---- the answer
 
 -- the member is not admitted
-pub barred : (b : Bytes) (m : Member) → admits m ≡ false → Refused 16 0 ≡ answer b m
+pub barred : (b : Bytes) (m : Member) → admits m ≡ false → Err (refusal NotAMember 0) ≡ answer b m
 unfolding answer right fields_or_refused
 barred b m e = rw e
 
 -- its bytes are not all of b
-pub lost : {r : ℕ} (b : Bytes) (m : Member) → admits m ≡ true → Found b 0 (encode m) r → (r ≡ length b → ⊥) → Refused 16 0 ≡ answer b m
+pub lost : {r : ℕ} (b : Bytes) (m : Member) → admits m ≡ true → Found b 0 (encode m) r → (r ≡ length b → ⊥) → Err (refusal NotAMember 0) ≡ answer b m
 unfolding answer right fields_or_refused
 lost b m a f n = rw (a, same-differ (encode m) b (λ e. n (whole-found f (sym e))))
 
 -- its bytes are others
-pub unlike : (b : Bytes) (m : Member) → (encode m ≡ b → ⊥) → Refused 16 0 ≡ answer b m
+pub unlike : (b : Bytes) (m : Member) → (encode m ≡ b → ⊥) → Err (refusal NotAMember 0) ≡ answer b m
 unfolding answer right fields_or_refused
 unlike b m n = rw (same-differ (encode m) b n) (pick (admits m))
   where
-    pick : (t : Bool) → Refused 16 0 ≡ fields_or_refused (if t && false then some m else none)
+    pick : (t : Bool) → Err (refusal NotAMember 0) ≡ fields_or_refused (if t && false then some m else none)
     pick true = refl
     pick false = refl
 
 -- they are
-pub found : {r : ℕ} {x : Read} (b : Bytes) (m : Member) → admits m ≡ true → Found b 0 (encode m) r → r ≡ length b → x ≡ fields m → x ≡ answer b m
+pub found : {r : ℕ} {x : Read} (b : Bytes) (m : Member) → admits m ≡ true → Found b 0 (encode m) r → r ≡ length b → x ≡ fields m → Ok x ≡ answer b m
 unfolding answer right fields_or_refused
 found b m a f e q =
     let s : same (encode m) b ≡ true = ap (same (encode m)) (found-whole f e) ∙ same-refl (encode m) in
-    rw (a, s) q
+    rw (a, s) (ap Ok q)
 
 -- ---- names
 

@@ -1,5 +1,5 @@
 -- The member that the code's fields make is the one of the definition.
-use Rattle.std.specs.Prelude.{if◌then◌else◌}
+use Rattle.std.specs.Prelude.{if◌then◌else◌, Result, Ok, Err}
 use Prim.Native.Nat.{ℕ, ◌+◌, ◌-◌, ◌/◌, ◌%◌, ◌≤◌, ◌<◌}
 use mathlib.Core.Path.{◌≡◌, refl, sym, ap, ap₂, ◌∙◌}
 use mathlib.Core.Bool.{Bool, true, false, ◌&&◌, not, true≢false}
@@ -15,8 +15,10 @@ use Rattle.wire.proofs.Parts.{part-last}
 use Rattle.format.specs.Machines.{known, arm64x}
 use Rattle.format.specs.Layouts.{Member, descriptor, null_descriptor, null_thunk, short, weak, dll_at, import_header_size, null_name, thunk_name, encode, data_at, IMAGE-SYM-ABSOLUTE, weak_bytes, file_header, section, symbol, word}
 use Rattle.format.specs.Reader.{between, admits_dll, admits_export, ordinary, admits, text_at, null_strings_at, thunk_strings_at, weak_strings_at, descriptor_guess, null_guess, thunk_guess, short_guess, weak_guess, guess, right, read, fields_or_refused, read_fields}
+use Rattle.format.specs.Refusals.{refusal}
+use Rattle.format.specs.declared.Reason.TheVariants.{NotAMember}
+use Rattle.format.specs.declared.Refusal.{Refusal}
 use Rattle.format.specs.declared.Read.{Read}
-use Rattle.format.specs.declared.Read.TheVariants.{Refused}
 use Rattle.laws.proofs.Lengths.{length-encode-descriptor, length-encode-null_descriptor-none, length-encode-null_descriptor-some, length-encode-null_thunk, length-encode-short, length-encode-weak}
 use Rattle.records.specs.Records.{import_header_at, symbol_at, signed}
 use Rattle.records.specs.declared.ImportObjectHeader.{ImportObjectHeader}
@@ -62,7 +64,7 @@ null-of-guessed {m} {name} b em en t es =
 
 -- a name too short to hold a stem
 pub null-barred : {m : ℕ} {name : Bytes} (b : Bytes) → ordinary m ≡ true → m ≡ u16_at b 0 → name ≡ text_at b null_strings_at
-    → same name (ascii "__NULL_IMPORT_DESCRIPTOR") ≡ false → length name < 25 → Refused 16 0 ≡ answer b (null_guess b)
+    → same name (ascii "__NULL_IMPORT_DESCRIPTOR") ≡ false → length name < 25 → Err (refusal NotAMember 0) ≡ answer b (null_guess b)
 null-barred {m} {name} b o em en t h =
     barred b (null_descriptor m (some [])) (admits-null-of m [] o (sym (between-less 1 255 [] (omega arith))))
     ∙ ap (answer b) (null-of-guessed b em en t (sym (drop_of_length-le name {i = 25} (omega arith))))
@@ -81,7 +83,7 @@ thunk-guessed {m} {at} {name} b em ea en es =
     ∙ ap (λ (m : ℕ). null_thunk m (part (text_at b (thunk_strings_at m)) 1 (length (text_at b (thunk_strings_at m)) - 17))) em
 
 pub thunk-barred : {m at : ℕ} {name : Bytes} (b : Bytes) → ordinary m ≡ true → m ≡ u16_at b 0 → at ≡ thunk_strings_at m → name ≡ text_at b at → length name < 17
-    → Refused 16 0 ≡ answer b (thunk_guess b)
+    → Err (refusal NotAMember 0) ≡ answer b (thunk_guess b)
 unfolding part
 thunk-barred {m} {at} {name} b o em ea en h =
     let z : 0 ≡ length name - 17 = omega arith in
@@ -188,7 +190,7 @@ object-barred k n b e = pick (eqb k 7) (eqb k 5) (eqb n 1)
 
 -- ---- any bytes
 
-pub answer-short : {r : Read} (b : Bytes) → u16_at b 0 ≡ 0 → r ≡ answer b (short_guess b) → r ≡ read_fields b
+pub answer-short : {r : Result Read Refusal} (b : Bytes) → u16_at b 0 ≡ 0 → r ≡ answer b (short_guess b) → r ≡ read_fields b
 unfolding read_fields read answer guess
 answer-short b e f = f ∙ rw (eq-eqb (u16_at b 0) 0 e)
 
@@ -200,11 +202,11 @@ answer-guess : (b : Bytes) → answer b (guess b) ≡ read_fields b
 unfolding read_fields read answer
 answer-guess b = refl
 
-pub answer-object : {r : Read} {k n : ℕ} (b : Bytes) → (u16_at b 0 ≡ 0 → ⊥) → k ≡ u32_at b 12 → n ≡ u16_at b 2 → r ≡ answer b (object_guess k n b) → r ≡ read_fields b
+pub answer-object : {r : Result Read Refusal} {k n : ℕ} (b : Bytes) → (u16_at b 0 ≡ 0 → ⊥) → k ≡ u32_at b 12 → n ≡ u16_at b 2 → r ≡ answer b (object_guess k n b) → r ≡ read_fields b
 answer-object b d ek en f =
     f ∙ ap₂ (λ (k n : ℕ). answer b (object_guess k n b)) ek en ∙ ap (answer b) (guess-object b d) ∙ answer-guess b
 
-pub read-barred : (b : Bytes) → (u16_at b 0 ≡ 0 → ⊥) → ordinary (u16_at b 0) ≡ false → Refused 16 0 ≡ read_fields b
+pub read-barred : (b : Bytes) → (u16_at b 0 ≡ 0 → ⊥) → ordinary (u16_at b 0) ≡ false → Err (refusal NotAMember 0) ≡ read_fields b
 read-barred b d e =
     barred b (object_guess (u32_at b 12) (u16_at b 2) b) (object-barred (u32_at b 12) (u16_at b 2) b e) ∙ ap (answer b) (guess-object b d) ∙ answer-guess b
 
@@ -217,10 +219,10 @@ encode-long (null_thunk m s) = omega (arith, length-encode-null_thunk m s)
 encode-long (short m o k t s dll x) = omega (arith, length-encode-short m o k t s dll x)
 encode-long (weak m target alias) = omega (arith, length-encode-weak m target alias)
 
-pub read-shorter : (b : Bytes) → length b < 20 → Refused 16 0 ≡ read_fields b
+pub read-shorter : (b : Bytes) → length b < 20 → Err (refusal NotAMember 0) ≡ read_fields b
 unfolding answer right fields_or_refused
 read-shorter b h = rw (same-longer (encode (guess b)) b (λ e. omega (arith, encode-long (guess b)))) (pick (admits (guess b))) ∙ answer-guess b
   where
-    pick : (a : Bool) → Refused 16 0 ≡ fields_or_refused (if a && false then some (guess b) else none)
+    pick : (a : Bool) → Err (refusal NotAMember 0) ≡ fields_or_refused (if a && false then some (guess b) else none)
     pick true = refl
     pick false = refl

@@ -1,18 +1,17 @@
 -- What the reader answers for a member that the bytes may be, and for a machine.
-use Rattle.std.specs.Prelude.{ℕ, ◌≡◌, Bool, true, false, ◌&&◌, not, eqb, leb, if◌then◌else◌}
+use Rattle.std.specs.Prelude.{ℕ, ◌≡◌, Bool, true, false, ◌&&◌, not, eqb, leb, if◌then◌else◌, Result, Option, None, Some}
 use Rattle.std.proofs.Math.Option.{none, some}
 use Rattle.wire.specs.Bytes.{Bytes, u16_at, holds}
 use Rattle.format.specs.Machines.{known, arm64x}
 use Rattle.format.specs.Layouts.{Member}
 use Rattle.format.specs.Reader.{max_symbol, between, admits_dll, ordinary, descriptor_guess, null_guess, thunk_guess, weak_guess, right, fields_or_refused}
 use Rattle.format.specs.declared.Read.{Read}
+use Rattle.format.specs.declared.Refusal.{Refusal}
 use Rattle.coff.specs.Machines.{IsMachine, row_of}
 use Rattle.coff.specs.declared.machines.Machine.{Machine}
-use Rattle.coff.specs.declared.machines.Found.{Found}
-use Rattle.coff.specs.declared.machines.Found.TheVariants.{Known, Unknown}
 
 -- the fields of the member where the bytes are its bytes and it is admitted, else the refusal
-unfoldable pub answer : Bytes → Member → Read
+unfoldable pub answer : Bytes → Member → Result Read Refusal
 answer b m = fields_or_refused (if right b m then some m else none)
 
 -- a name holds no NUL
@@ -22,8 +21,8 @@ Clear s = holds 0 s ≡ false
 -- ---- machines and layouts
 
 -- the row of a number, unless it is a hybrid's
-unfoldable pub ordinary_of : ℕ → Found
-ordinary_of n = if ordinary n then Known (row_of n) else Unknown
+unfoldable pub ordinary_of : ℕ → Option Machine
+ordinary_of n = if ordinary n then Some (row_of n) else None
 
 -- a machine of the table and no hybrid
 pub record Ordinary (m : Machine) : Type 0 where

@@ -13,7 +13,7 @@ use crate::texts::{MAX_STEM, MAX_SYMBOL};
 use coff::machines::Machine;
 use finds::layouts;
 use finds::strings::{NULL_STRINGS_AT, SYMBOL_AT, THUNK_STRINGS_AT, WEAK_STRINGS_AT};
-use format::{Read, Span};
+use format::{Read, Reason, Refusal, Span};
 use layout::places::{DESCRIPTOR_SYMBOLS_SIZE, DLL_AT};
 use layout::tables::{
     IMPORT_DESCRIPTOR_PREFIX, NUL, NULL_IMPORT_DESCRIPTOR_SYMBOL_NAME_PREFIX,
@@ -22,8 +22,8 @@ use layout::tables::{
 use layout::widths;
 
 // The refusal: the bytes are no admitted member's.
-pub const REFUSED: Read = Read::Refused {
-    number: 16,
+pub const REFUSED: Refusal = Refusal {
+    reason: Reason::NotAMember,
     place: 0,
 };
 
@@ -38,16 +38,22 @@ const DESCRIPTOR_STEM_AT: usize = DESCRIPTOR_SYMBOLS_SIZE
 const NULL_STEM_AT: usize = NULL_STRINGS_AT + NULL_IMPORT_DESCRIPTOR_SYMBOL_NAME_PREFIX.len();
 
 // Of an import descriptor.
-pub fn as_descriptor(b: &[u8], machine: Machine, dll: &[u8], stem: &[u8], compat: bool) -> Read
+pub fn as_descriptor(
+    b: &[u8],
+    machine: Machine,
+    dll: &[u8],
+    stem: &[u8],
+    compat: bool,
+) -> Result<Read, Refusal>
     requires ordinary { Ordinary machine }
     requires dll_value { admits_dll dll.now ≡ true }
     requires stem { IsStem stem.now dll.now }
     ensures { result ≡ answer b.now (descriptor machine.number dll.now compat) }
 {
     if layouts::find_import_descriptor(b, machine, dll, stem, compat) != b.len() {
-        return REFUSED;
+        return Err(REFUSED);
     }
-    Read::Descriptor {
+    Ok(Read::Descriptor {
         machine: machine.number,
         compat,
         dll: Span {
@@ -58,47 +64,47 @@ pub fn as_descriptor(b: &[u8], machine: Machine, dll: &[u8], stem: &[u8], compat
             start: DLL_AT + (dll.len() + NUL) + DESCRIPTOR_STEM_AT,
             length: stem.len(),
         },
-    }
+    })
 }
 
 // Of a null import descriptor.
-pub fn as_null_descriptor(b: &[u8], machine: Machine) -> Read
+pub fn as_null_descriptor(b: &[u8], machine: Machine) -> Result<Read, Refusal>
     requires { Ordinary machine }
     ensures { result ≡ answer b.now (null_descriptor machine.number none) }
 {
     if layouts::find_null_import_descriptor(b, machine, b"", false) != b.len() {
-        return REFUSED;
+        return Err(REFUSED);
     }
-    Read::NullDescriptor {
+    Ok(Read::NullDescriptor {
         machine: machine.number,
         compat: false,
         stem: Span {
             start: 0,
             length: 0,
         },
-    }
+    })
 }
 
 // Of one whose name ends in a stem.
-pub fn as_null_descriptor_of(b: &[u8], machine: Machine, stem: &[u8]) -> Read
+pub fn as_null_descriptor_of(b: &[u8], machine: Machine, stem: &[u8]) -> Result<Read, Refusal>
     requires ordinary { Ordinary machine }
     requires clear { Clear stem.now }
     ensures { result ≡ answer b.now (null_descriptor machine.number (some stem.now)) }
 {
     if !texts::fits(stem, 1, MAX_STEM) {
-        return REFUSED;
+        return Err(REFUSED);
     }
     if layouts::find_null_import_descriptor(b, machine, stem, true) != b.len() {
-        return REFUSED;
+        return Err(REFUSED);
     }
-    Read::NullDescriptor {
+    Ok(Read::NullDescriptor {
         machine: machine.number,
         compat: true,
         stem: Span {
             start: NULL_STEM_AT,
             length: stem.len(),
         },
-    }
+    })
 }
 
 // Where the name of a null thunk stands.
@@ -111,28 +117,35 @@ pub fn thunk_strings_at(machine: Machine) -> usize
 }
 
 // Of a null thunk.
-pub fn as_null_thunk(b: &[u8], machine: Machine, stem: &[u8]) -> Read
+pub fn as_null_thunk(b: &[u8], machine: Machine, stem: &[u8]) -> Result<Read, Refusal>
     requires ordinary { Ordinary machine }
     requires clear { Clear stem.now }
     ensures { result ≡ answer b.now (null_thunk machine.number stem.now) }
 {
     if !texts::fits(stem, 1, MAX_STEM) {
-        return REFUSED;
+        return Err(REFUSED);
     }
     if layouts::find_null_thunk(b, machine, stem) != b.len() {
-        return REFUSED;
+        return Err(REFUSED);
     }
-    Read::NullThunk {
+    Ok(Read::NullThunk {
         machine: machine.number,
         stem: Span {
             start: thunk_strings_at(machine) + NULL_THUNK_DATA_PREFIX.len(),
             length: stem.len(),
         },
-    }
+    })
 }
 
 // Of a short import without an export string, whose names are the texts at their places.
-pub fn as_short(b: &[u8], machine: u16, ordinal: u16, types: u16, symbol: &[u8], dll: &[u8]) -> Read
+pub fn as_short(
+    b: &[u8],
+    machine: u16,
+    ordinal: u16,
+    types: u16,
+    symbol: &[u8],
+    dll: &[u8],
+) -> Result<Read, Refusal>
     requires types_value { admits_types machine (types % 4) (types / 4) ≡ true }
     requires not_exportas { types / 4 ≡ 4 → ⊥ }
     requires symbol_value { symbol.now ≡ text_at b.now import_header_size }
@@ -140,12 +153,12 @@ pub fn as_short(b: &[u8], machine: u16, ordinal: u16, types: u16, symbol: &[u8],
     ensures { result ≡ answer b.now (short machine ordinal (types % 4) (types / 4) symbol.now dll.now []) }
 {
     if !texts::admits_names(symbol, dll) {
-        return REFUSED;
+        return Err(REFUSED);
     }
     if layouts::find_short(b, machine, ordinal, types, symbol, dll) != b.len() {
-        return REFUSED;
+        return Err(REFUSED);
     }
-    Read::ShortImport {
+    Ok(Read::ShortImport {
         machine,
         ordinal,
         name_type: types / members::NAME_TYPE,
@@ -162,7 +175,7 @@ pub fn as_short(b: &[u8], machine: u16, ordinal: u16, types: u16, symbol: &[u8],
             start: 0,
             length: 0,
         },
-    }
+    })
 }
 
 // Of one with an export string.
@@ -174,7 +187,7 @@ pub fn as_short_as(
     symbol: &[u8],
     dll: &[u8],
     export: &[u8],
-) -> Read
+) -> Result<Read, Refusal>
     requires types_value { admits_types machine (types % 4) (types / 4) ≡ true }
     requires types_value_2 { types / 4 ≡ 4 }
     requires symbol_value { symbol.now ≡ text_at b.now import_header_size }
@@ -183,15 +196,15 @@ pub fn as_short_as(
     ensures { result ≡ answer b.now (short machine ordinal (types % 4) (types / 4) symbol.now dll.now export.now) }
 {
     if !texts::admits_names(symbol, dll) {
-        return REFUSED;
+        return Err(REFUSED);
     }
     if !texts::fits(export, 1, MAX_SYMBOL) {
-        return REFUSED;
+        return Err(REFUSED);
     }
     if layouts::find_short_as(b, machine, ordinal, types, symbol, dll, export) != b.len() {
-        return REFUSED;
+        return Err(REFUSED);
     }
-    Read::ShortImport {
+    Ok(Read::ShortImport {
         machine,
         ordinal,
         name_type: types / members::NAME_TYPE,
@@ -208,26 +221,26 @@ pub fn as_short_as(
             start: SYMBOL_AT + (symbol.len() + NUL) + (dll.len() + NUL),
             length: export.len(),
         },
-    }
+    })
 }
 
 // Of a weak external, whose names are the texts at their places.
-pub fn as_weak(b: &[u8], machine: u16, target: &[u8], alias: &[u8]) -> Read
+pub fn as_weak(b: &[u8], machine: u16, target: &[u8], alias: &[u8]) -> Result<Read, Refusal>
     requires machine_value { ordinary machine ≡ true }
     requires target_value { target.now ≡ text_at b.now weak_strings_at }
     requires alias_value { alias.now ≡ text_at b.now (weak_strings_at + (length target.now + 1)) }
     ensures { result ≡ answer b.now (weak machine target.now alias.now) }
 {
     if !texts::fits(target, 1, MAX_WEAK) {
-        return REFUSED;
+        return Err(REFUSED);
     }
     if !texts::fits(alias, 1, MAX_WEAK) {
-        return REFUSED;
+        return Err(REFUSED);
     }
     if layouts::find_weak_external(b, machine, target, alias) != b.len() {
-        return REFUSED;
+        return Err(REFUSED);
     }
-    Read::WeakExternal {
+    Ok(Read::WeakExternal {
         machine,
         target: Span {
             start: WEAK_STRINGS_AT,
@@ -237,5 +250,5 @@ pub fn as_weak(b: &[u8], machine: u16, target: &[u8], alias: &[u8]) -> Read
             start: WEAK_STRINGS_AT + (target.len() + NUL),
             length: alias.len(),
         },
-    }
+    })
 }

@@ -15,9 +15,9 @@ ghost use Rattle.reader.specs.Answers.{answer, Ordinary, First, object_guess};
 
 use crate::answers::REFUSED;
 use coff::constants::IMAGE_SYM_ABSOLUTE;
-use coff::machines::{Found, Machine};
+use coff::machines::Machine;
 use finds::strings::{NULL_STRINGS_AT, SYMBOL_AT, WEAK_STRINGS_AT};
-use format::Read;
+use format::{Read, Refusal};
 use layout::places::{DATA_AT_1, DESCRIPTOR_SYMBOLS, DLL_AT, WEAK_SYMBOLS};
 use layout::tables::{
     NUL, NULL_IMPORT_DESCRIPTOR_SYMBOL_NAME, NULL_IMPORT_DESCRIPTOR_SYMBOL_NAME_PREFIX,
@@ -27,14 +27,14 @@ use members::extents;
 use records::{FileHeader, ImportObjectHeader, Symbol};
 
 // An import descriptor. Under compat it is longer, by the stem.
-fn read_descriptor(b: &[u8], machine: Machine) -> Read
+fn read_descriptor(b: &[u8], machine: Machine) -> Result<Read, Refusal>
     requires ordinary { Ordinary machine }
     requires first { First machine b.now }
     ensures { result ≡ answer b.now (descriptor_guess b.now) }
 {
     let dll = texts::text(b, DLL_AT);
     if !texts::admits_dll(dll) {
-        return REFUSED;
+        return Err(REFUSED);
     }
     let stem = wire::part(dll, 0, names::dll::stem(dll));
     let compat = b.len() != extents::descriptor_size(dll, stem, false);
@@ -42,7 +42,7 @@ fn read_descriptor(b: &[u8], machine: Machine) -> Read
 }
 
 // A null import descriptor. Its name ends in the stem, or is the name alone.
-fn read_null_descriptor(b: &[u8], machine: Machine) -> Read
+fn read_null_descriptor(b: &[u8], machine: Machine) -> Result<Read, Refusal>
     requires ordinary { Ordinary machine }
     requires first { First machine b.now }
     ensures { result ≡ answer b.now (null_guess b.now) }
@@ -53,20 +53,20 @@ fn read_null_descriptor(b: &[u8], machine: Machine) -> Read
     }
     let prefix = NULL_IMPORT_DESCRIPTOR_SYMBOL_NAME_PREFIX.len();
     if name.len() < prefix {
-        return REFUSED;
+        return Err(REFUSED);
     }
     answers::as_null_descriptor_of(b, machine, wire::part(name, prefix, name.len() - prefix))
 }
 
 // A null thunk.
-fn read_null_thunk(b: &[u8], machine: Machine) -> Read
+fn read_null_thunk(b: &[u8], machine: Machine) -> Result<Read, Refusal>
     requires ordinary { Ordinary machine }
     requires first { First machine b.now }
     ensures { result ≡ answer b.now (thunk_guess b.now) }
 {
     let name = texts::text(b, answers::thunk_strings_at(machine));
     if name.len() < NULL_THUNK_DATA {
-        return REFUSED;
+        return Err(REFUSED);
     }
     let n = name.len() - NULL_THUNK_DATA;
     answers::as_null_thunk(
@@ -77,16 +77,16 @@ fn read_null_thunk(b: &[u8], machine: Machine) -> Read
 }
 
 // A weak external. Its first symbol is absolute: other bytes are refused before anything is drawn.
-fn read_weak(b: &[u8], machine: Machine) -> Read
+fn read_weak(b: &[u8], machine: Machine) -> Result<Read, Refusal>
     requires ordinary { Ordinary machine }
     requires first { First machine b.now }
     ensures { result ≡ answer b.now (weak_guess b.now) }
 {
     if b.len() < WEAK_STRINGS_AT {
-        return REFUSED;
+        return Err(REFUSED);
     }
     if Symbol::read(b, DATA_AT_1).section_number != IMAGE_SYM_ABSOLUTE {
-        return REFUSED;
+        return Err(REFUSED);
     }
     let target = texts::text(b, WEAK_STRINGS_AT);
     let alias = texts::text(b, WEAK_STRINGS_AT + (target.len() + NUL));
@@ -94,7 +94,7 @@ fn read_weak(b: &[u8], machine: Machine) -> Read
 }
 
 // A short import. The export string stands only under NameExportas.
-fn read_short(b: &[u8]) -> Read
+fn read_short(b: &[u8]) -> Result<Read, Refusal>
     requires { import_header_size ≤ length b.now }
     ensures { result ≡ answer b.now (short_guess b.now) }
 {
@@ -102,7 +102,7 @@ fn read_short(b: &[u8]) -> Read
     let types = h.name_type;
     let name_type = types / members::NAME_TYPE;
     if !texts::admits_types(h.machine, types % members::NAME_TYPE, name_type) {
-        return REFUSED;
+        return Err(REFUSED);
     }
     let symbol = texts::text(b, SYMBOL_AT);
     let dll_at = SYMBOL_AT + (symbol.len() + NUL);
@@ -122,7 +122,7 @@ fn read_short(b: &[u8]) -> Read
 }
 
 // A member with a file header, by its numbers of symbols and sections.
-fn read_object(b: &[u8], machine: Machine, symbols: u32, sections: u16) -> Read
+fn read_object(b: &[u8], machine: Machine, symbols: u32, sections: u16) -> Result<Read, Refusal>
     requires ordinary { Ordinary machine }
     requires first { First machine b.now }
     ensures { result ≡ answer b.now (object_guess symbols sections b.now) }
@@ -140,18 +140,18 @@ fn read_object(b: &[u8], machine: Machine, symbols: u32, sections: u16) -> Read
 }
 
 // Reads a member: its layout with its fields, or the refusal.
-pub fn read(b: &[u8]) -> Read
+pub fn read(b: &[u8]) -> Result<Read, Refusal>
     ensures { result ≡ read_fields b.now }
 {
     if b.len() < FileHeader::SIZE {
-        return REFUSED;
+        return Err(REFUSED);
     }
     let h = FileHeader::read(b, 0);
     if h.machine == 0 {
         return read_short(b);
     }
-    let Found::Known(machine) = texts::ordinary_machine(h.machine) else {
-        return REFUSED;
+    let Some(machine) = texts::ordinary_machine(h.machine) else {
+        return Err(REFUSED);
     };
     read_object(b, machine, h.number_of_symbols, h.number_of_sections)
 }

@@ -5,7 +5,7 @@ ghost use Rattle.reader.specs.Answers.{Clear, ordinary_of, admits_names, admits_
 
 use coff::constants::IMAGE_FILE_MACHINE_ARM64X;
 use coff::machines;
-use coff::machines::Found;
+use coff::machines::Machine;
 use names::dll;
 
 // How long names may be: a DLL name or a stem, a short import's symbol or export string.
@@ -64,11 +64,11 @@ pub fn admits_names(symbol: &[u8], dll: &[u8]) -> bool
 }
 
 // The machine of a number, unless it is ARM64EC or ARM64X.
-pub fn ordinary_machine(number: u16) -> Found
+pub fn ordinary_machine(number: u16) -> Option<Machine>
     ensures { result ≡ ordinary_of number }
 {
     if machines::is_arm64ec(number) {
-        return Found::Unknown;
+        return None;
     }
     machines::find_machine(number as u32)
 }
@@ -77,7 +77,7 @@ pub fn ordinary_machine(number: u16) -> Found
 pub fn admits_types(machine: u16, kind: u16, name_type: u16) -> bool
     ensures { result ≡ admits_types machine kind name_type }
 {
-    let Found::Known(_) = machines::find_machine(machine as u32) else {
+    let Some(_) = machines::find_machine(machine as u32) else {
         return false;
     };
     if machine == IMAGE_FILE_MACHINE_ARM64X {

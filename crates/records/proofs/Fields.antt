@@ -1,32 +1,17 @@
 -- The bytes and the fields at a place: read one by one, and found where they were written.
-use Prim.Native.Nat.{ℕ, zero, suc, ◌+◌, ◌≤◌, ◌<◌}
-use mathlib.Core.Path.{◌≡◌, refl, sym, ap, ◌∙◌}
-use mathlib.Core.List.{[], ◌∷◌, ◌++◌}
-use native.Mathlib.Nat.{add-zero, add-suc}
+use Prim.Native.Nat.{ℕ, ◌+◌, ◌≤◌, ◌<◌}
+use mathlib.Core.Path.{◌≡◌, sym, ap, ◌∙◌}
+use mathlib.Core.List.{◌∷◌, ◌++◌}
+use native.Mathlib.Nat.{add-zero}
 use native.Mathlib.Omega.{arith}
 use lib.ListN.{length, get_or, take, drop}
-use lib.Seq.{drop-cons, drop-drop, get_or-drop, drop_at, length-take-le}
+use lib.Seq.{drop-drop, get_or-drop, drop_at, length-take-le}
 use Rattle.wire.specs.Bytes.{Bytes, le16, le32, u16_at, u32_at, part}
 use Rattle.wire.specs.Writes.{Wrote, Has}
 use Rattle.wire.proofs.Bytes.{le16-back, le32-back}
 use Rattle.wire.proofs.Writes.{wrote-exact, wrote-length}
 
 -- ---- a part, byte by byte
-
--- n bytes of s from k after a place on: at numerals it computes to a list that is written out
-abbrev pub cells : ℕ → Bytes → ℕ → ℕ → Bytes
-cells zero s at k = []
-cells (suc n) s at k = get_or s (at + k) 0 ∷ cells n s at (suc k)
-
-part-cells : (n : ℕ) (s : Bytes) (at k : ℕ) → at + k + n ≤ length s → part s (at + k) n ≡ cells n s at k
-unfolding part
-part-cells zero s at k h = refl
-part-cells (suc n) s at k h =
-    ap (take (suc n)) (drop-cons s (at + k) 0 (omega arith))
-    ∙ ap (λ (l : Bytes). get_or s (at + k) 0 ∷ l) (ap (λ (i : ℕ). take n (drop i s)) (sym (add-suc at k)) ∙ part-cells n s at (suc k) (omega arith))
-
-pub cells-part : (n : ℕ) (s : Bytes) (at : ℕ) → at + n ≤ length s → cells n s at 0 ≡ part s at n
-cells-part n s at h = sym (part-cells n s at 0 (omega arith)) ∙ ap (λ (i : ℕ). part s i n) (add-zero at)
 
 -- ---- what stands at a place, and k further on
 

@@ -1,14 +1,12 @@
 -- A signed number of sixteen bits and its word.
 use Prim.Native.Nat.{ℕ, suc, ◌-◌, ◌<◌, ◌≤◌}
-use mathlib.Core.Path.{◌≡◌, refl, ◌∙◌}
-use mathlib.Core.Bool.{true, false}
+use mathlib.Core.Path.{◌≡◌, refl, sym, ◌∙◌}
+use native.Mathlib.Decide.{dec_le}
 use native.Mathlib.Omega.{arith}
-use borrow.Author.Tests.{lt-ltb, le-ltb, ltb-true}
+use borrow.Author.Tests.{lt-ltb, le-ltb}
 use lib.IntN.{ℤ, pos, negsuc}
-use lib.Signed.{lt_z, mag}
 use mir.Syntax.{w16}
 use mir.Val.{SFits, to_z, of_z}
-use mir.Facts.{to_z-of_z}
 use Rattle.format.specs.Layouts.{word}
 use Rattle.records.specs.Records.{signed}
 
@@ -30,27 +28,11 @@ unfolding word
 word-small (pos n) f = let h : n < 32768 = f.sfits in omega arith
 word-small (negsuc k) f = omega arith
 
-module _ (z : ℤ) (f : SFits w16 z) where
-  -- of a number below 0: its bits turned over are its magnitude, and that taken from all ones is its word
-  pub word-below : lt_z (to_z w16 (of_z w16 z)) (pos 0) ≡ true → (to_z w16 (65535 - of_z w16 z) ≡ pos (mag z)) × (65535 - mag z ≡ word z)
-  unfolding word
-  word-below t = go z f (rw (to_z-of_z f) at t)
-    where
-      go : (z : ℤ) → SFits w16 z → lt_z z (pos 0) ≡ true → (to_z w16 (65535 - of_z w16 z) ≡ pos (mag z)) × (65535 - mag z ≡ word z)
-      go (pos n) f t = absurd (let h : n < 0 = ltb-true n 0 t in omega arith)
-      go (negsuc k) f t =
-          let h : k < 32768 = f.sfits in
-          let e : 65535 - (65536 - suc k) ≡ k = omega arith in
-          (rw e (to_z-small k h), refl)
-
-  -- of any other: it is its word
-  pub word-above : lt_z (to_z w16 (of_z w16 z)) (pos 0) ≡ false → to_z w16 (of_z w16 z) ≡ pos (word z)
-  unfolding word
-  word-above t = to_z-of_z f ∙ go z (rw (to_z-of_z f) at t)
-    where
-      go : (z : ℤ) → lt_z z (pos 0) ≡ false → z ≡ pos (word z)
-      go (pos n) t = refl
-      go (negsuc k) t = cc
+-- the sixteen bits of a number are its word
+pub of_z-word : (z : ℤ) → of_z w16 z ≡ word z
+unfolding word
+of_z-word (pos n) = refl
+of_z-word (negsuc k) = omega arith
 
 -- ---- signed
 
@@ -61,6 +43,14 @@ signed-small w h = rw (lt-ltb w 32768 h)
 pub signed-large : (w : ℕ) → 32768 ≤ w → signed w ≡ negsuc (65535 - w)
 unfolding signed
 signed-large w h = rw (le-ltb w 32768 h)
+
+-- what the machine reads in sixteen bits
+pub to_z-signed : (w : ℕ) → to_z w16 w ≡ signed w
+to_z-signed w = go (dec_le 32768 w)
+  where
+    go : Dec (32768 ≤ w) → to_z w16 w ≡ signed w
+    go (yes h) = to_z-large w h ∙ sym (signed-large w h)
+    go (no h) = to_z-small w (omega arith) ∙ sym (signed-small w (omega arith))
 
 -- there and back, of every number of sixteen bits
 pub signed-word : (z : ℤ) → SFits w16 z → signed (word z) ≡ z

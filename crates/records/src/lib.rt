@@ -1,5 +1,6 @@
 // The records of a COFF object file and the header of a short import, with the PE Format document's names. Fields that
-// are always 0 in a member are not held: `write` puts 0 there, and `read` passes over them.
+// are always 0 in a member are not held: `write` puts 0 there, and `read` passes over them. Each record has a `write` of two
+// lines of its own: under a trait over the number of bytes each would have to show besides that they fit in memory.
 #![tactic(auto)]
 
 ghost use Rattle.std.specs.Prelude.{◌+◌, ◌≤◌, ◌≡◌, length};
@@ -33,34 +34,17 @@ impl FileHeader {
     fn bytes(self) -> [u8; FileHeader::SIZE]
         ensures { result ≡ file_header_bytes self }
     {
-        let m = self.machine;
-        let n = self.number_of_sections;
-        let p = self.pointer_to_symbol_table;
-        let k = self.number_of_symbols;
-        let c = self.characteristics;
+        let [m0, m1] = self.machine.to_le_bytes();
+        let [n0, n1] = self.number_of_sections.to_le_bytes();
+        let [p0, p1, p2, p3] = self.pointer_to_symbol_table.to_le_bytes();
+        let [k0, k1, k2, k3] = self.number_of_symbols.to_le_bytes();
+        let [c0, c1] = self.characteristics.to_le_bytes();
         [
-            (m % 256) as u8,
-            (m / 256 % 256) as u8,
-            (n % 256) as u8,
-            (n / 256 % 256) as u8,
+            m0, m1, n0, n1,
             // TimeDateStamp
-            0,
-            0,
-            0,
-            0,
-            (p % 256) as u8,
-            (p / 256 % 256) as u8,
-            (p / 65536 % 256) as u8,
-            (p / 16777216 % 256) as u8,
-            (k % 256) as u8,
-            (k / 256 % 256) as u8,
-            (k / 65536 % 256) as u8,
-            (k / 16777216 % 256) as u8,
+            0, 0, 0, 0, p0, p1, p2, p3, k0, k1, k2, k3,
             // SizeOfOptionalHeader
-            0,
-            0,
-            (c % 256) as u8,
-            (c / 256 % 256) as u8,
+            0, 0, c0, c1,
         ]
     }
 
@@ -104,57 +88,20 @@ impl Section {
     fn bytes(self) -> [u8; Section::SIZE]
         ensures { result ≡ section_bytes self }
     {
-        let n = self.name;
-        let z = self.size_of_raw_data;
-        let d = self.pointer_to_raw_data;
-        let p = self.pointer_to_relocations;
-        let k = self.number_of_relocations;
-        let c = self.characteristics;
+        let [n0, n1, n2, n3, n4, n5, n6, n7] = self.name;
+        let [z0, z1, z2, z3] = self.size_of_raw_data.to_le_bytes();
+        let [d0, d1, d2, d3] = self.pointer_to_raw_data.to_le_bytes();
+        let [p0, p1, p2, p3] = self.pointer_to_relocations.to_le_bytes();
+        let [k0, k1] = self.number_of_relocations.to_le_bytes();
+        let [c0, c1, c2, c3] = self.characteristics.to_le_bytes();
         [
-            n[0],
-            n[1],
-            n[2],
-            n[3],
-            n[4],
-            n[5],
-            n[6],
-            n[7],
-            // VirtualSize
-            0,
-            0,
-            0,
-            0,
-            // VirtualAddress
-            0,
-            0,
-            0,
-            0,
-            (z % 256) as u8,
-            (z / 256 % 256) as u8,
-            (z / 65536 % 256) as u8,
-            (z / 16777216 % 256) as u8,
-            (d % 256) as u8,
-            (d / 256 % 256) as u8,
-            (d / 65536 % 256) as u8,
-            (d / 16777216 % 256) as u8,
-            (p % 256) as u8,
-            (p / 256 % 256) as u8,
-            (p / 65536 % 256) as u8,
-            (p / 16777216 % 256) as u8,
+            n0, n1, n2, n3, n4, n5, n6, n7,
+            // VirtualSize and VirtualAddress
+            0, 0, 0, 0, 0, 0, 0, 0, z0, z1, z2, z3, d0, d1, d2, d3, p0, p1, p2, p3,
             // PointerToLinenumbers
-            0,
-            0,
-            0,
-            0,
-            (k % 256) as u8,
-            (k / 256 % 256) as u8,
+            0, 0, 0, 0, k0, k1,
             // NumberOfLinenumbers
-            0,
-            0,
-            (c % 256) as u8,
-            (c / 256 % 256) as u8,
-            (c / 65536 % 256) as u8,
-            (c / 16777216 % 256) as u8,
+            0, 0, c0, c1, c2, c3,
         ]
     }
 
@@ -181,21 +128,10 @@ impl Relocation {
     fn bytes(self) -> [u8; Relocation::SIZE]
         ensures { result ≡ relocation_bytes self }
     {
-        let a = self.virtual_address;
-        let n = self.symbol_table_index;
-        let t = self.typ;
-        [
-            (a % 256) as u8,
-            (a / 256 % 256) as u8,
-            (a / 65536 % 256) as u8,
-            (a / 16777216 % 256) as u8,
-            (n % 256) as u8,
-            (n / 256 % 256) as u8,
-            (n / 65536 % 256) as u8,
-            (n / 16777216 % 256) as u8,
-            (t % 256) as u8,
-            (t / 256 % 256) as u8,
-        ]
+        let [a0, a1, a2, a3] = self.virtual_address.to_le_bytes();
+        let [n0, n1, n2, n3] = self.symbol_table_index.to_le_bytes();
+        let [t0, t1] = self.typ.to_le_bytes();
+        [a0, a1, a2, a3, n0, n1, n2, n3, t0, t1]
     }
 
     // Writes the relocation, as far as out goes, and nothing else. Returns the next place.
@@ -230,31 +166,29 @@ impl Symbol {
     fn bytes(self) -> [u8; Symbol::SIZE]
         ensures { result ≡ symbol_bytes self }
     {
-        let n = self.name;
-        let s = word(self.section_number);
-        let c = self.storage_class;
-        let a = self.number_of_aux_symbols;
+        let [n0, n1, n2, n3, n4, n5, n6, n7] = self.name;
+        let [s0, s1] = self.section_number.to_le_bytes();
         [
-            n[0],
-            n[1],
-            n[2],
-            n[3],
-            n[4],
-            n[5],
-            n[6],
-            n[7],
+            n0,
+            n1,
+            n2,
+            n3,
+            n4,
+            n5,
+            n6,
+            n7,
             // Value
             0,
             0,
             0,
             0,
-            (s % 256) as u8,
-            (s / 256 % 256) as u8,
+            s0,
+            s1,
             // Type
             0,
             0,
-            c,
-            a,
+            self.storage_class,
+            self.number_of_aux_symbols,
         ]
     }
 
@@ -273,7 +207,7 @@ impl Symbol {
     {
         Symbol {
             name: name_at(b, at),
-            section_number: signed(wire::u16_at(b, at + Symbol::SECTION_NUMBER)),
+            section_number: wire::u16_at(b, at + Symbol::SECTION_NUMBER).cast_signed(),
             storage_class: b[at + Symbol::STORAGE_CLASS],
             number_of_aux_symbols: b[at + Symbol::NUMBER_OF_AUX_SYMBOLS],
         }
@@ -327,35 +261,19 @@ impl ImportObjectHeader {
     fn bytes(self) -> [u8; ImportObjectHeader::SIZE]
         ensures { result ≡ import_header_bytes self }
     {
-        let m = self.machine;
-        let z = self.size_of_data;
-        let n = self.ordinal_or_hint;
-        let t = self.name_type;
+        let [m0, m1] = self.machine.to_le_bytes();
+        let [z0, z1, z2, z3] = self.size_of_data.to_le_bytes();
+        let [n0, n1] = self.ordinal_or_hint.to_le_bytes();
+        let [t0, t1] = self.name_type.to_le_bytes();
         [
             // Sig1
-            0,
-            0,
+            0, 0,
             // Sig2
-            0xFF,
-            0xFF,
+            0xFF, 0xFF,
             // Version
-            0,
-            0,
-            (m % 256) as u8,
-            (m / 256 % 256) as u8,
+            0, 0, m0, m1,
             // TimeDateStamp
-            0,
-            0,
-            0,
-            0,
-            (z % 256) as u8,
-            (z / 256 % 256) as u8,
-            (z / 65536 % 256) as u8,
-            (z / 16777216 % 256) as u8,
-            (n % 256) as u8,
-            (n / 256 % 256) as u8,
-            (t % 256) as u8,
-            (t / 256 % 256) as u8,
+            0, 0, 0, 0, z0, z1, z2, z3, n0, n1, t0, t1,
         ]
     }
 
@@ -395,32 +313,17 @@ impl ImportObjectHeader {
 pub fn long_name(offset: u32) -> [u8; 8]
     ensures { result ≡ long_name offset }
 {
-    [
-        0,
-        0,
-        0,
-        0,
-        (offset % 256) as u8,
-        (offset / 256 % 256) as u8,
-        (offset / 65536 % 256) as u8,
-        (offset / 16777216 % 256) as u8,
-    ]
+    let [n0, n1, n2, n3] = offset.to_le_bytes();
+    [0, 0, 0, 0, n0, n1, n2, n3]
 }
 
 // What the auxiliary record of a weak external has in the place of a name.
 pub fn auxiliary(tag_index: u32, characteristics: u32) -> [u8; 8]
     ensures { result ≡ auxiliary tag_index characteristics }
 {
-    [
-        (tag_index % 256) as u8,
-        (tag_index / 256 % 256) as u8,
-        (tag_index / 65536 % 256) as u8,
-        (tag_index / 16777216 % 256) as u8,
-        (characteristics % 256) as u8,
-        (characteristics / 256 % 256) as u8,
-        (characteristics / 65536 % 256) as u8,
-        (characteristics / 16777216 % 256) as u8,
-    ]
+    let [t0, t1, t2, t3] = tag_index.to_le_bytes();
+    let [c0, c1, c2, c3] = characteristics.to_le_bytes();
+    [t0, t1, t2, t3, c0, c1, c2, c3]
 }
 
 // The eight bytes at a place.
@@ -428,38 +331,7 @@ fn name_at(b: &[u8], at: usize) -> [u8; 8]
     requires { at + 8 ≤ length b.now }
     ensures { result ≡ part b.now at 8 }
 {
-    [
-        b[at],
-        b[at + 1],
-        b[at + 2],
-        b[at + 3],
-        b[at + 4],
-        b[at + 5],
-        b[at + 6],
-        b[at + 7],
-    ]
-}
-
-// ---- section numbers
-
-// The sixteen bits of a section number.
-fn word(n: i16) -> u16
-    ensures { result ≡ word n }
-{
-    if n < 0 {
-        65535 - ((!n) as u16)
-    } else {
-        n as u16
-    }
-}
-
-// The section number of sixteen bits.
-fn signed(w: u16) -> i16
-    ensures { result ≡ signed w }
-{
-    if w < 32768 {
-        w as i16
-    } else {
-        !((65535 - w) as i16)
-    }
+    let mut name = [0; 8];
+    name.copy_from_slice(wire::part(b, at, 8));
+    name
 }

@@ -1,4 +1,6 @@
 -- Laws of the search for a pattern, place by place and byte by byte, and of its answer.
+use Rattle.std.specs.Prelude.{None, Some}
+use Rattle.std.specs.Prelude as std
 use Prim.Native.Nat.{ℕ, zero, suc, ◌+◌, ◌-◌, ◌≤◌, ◌<◌}
 use mathlib.Core.Path.{◌≡◌, refl, sym, ap, ◌∙◌}
 use mathlib.Core.Bool.{Bool, true, false}
@@ -8,16 +10,17 @@ use native.Mathlib.Decide.{dec_le}
 use native.Mathlib.Nat.{add-zero, sub-zero}
 use native.Mathlib.Omega.{arith}
 use lib.ListN.{length, get_or, take, drop, length-take, length-drop}
-use lib.Seq.{get_or-take, get_or-drop, take_all}
+use Rattle.std.specs.List.{slice_get}
+use Rattle.std.proofs.lemmas.List.{take_rest}
+use Rattle.std.proofs.lemmas.Option.{slice_get_within, get_or_from_slice_get}
+use lib.Seq.{get_or-take, get_or-drop}
 use lib.Dec.{eqb}
 use borrow.Author.Tests.{eqb-true, eqb-false}
-use Rattle.wire.specs.Bytes.{Bytes, same, starts, first, part, before}
+use Rattle.wire.specs.Bytes.{Bytes, same, first, part, before}
 use Rattle.wire.proofs.Bytes.{same-longer, same-later, same-stop, same-end, length-part}
 use Rattle.wire.proofs.Parts.{length-before, before-here, before-later, before-end}
 use Rattle.format.specs.Names.{occurs_at, find}
 use Rattle.search.specs.Search.{place_of}
-use Rattle.search.specs.declared.Place.{Place}
-use Rattle.search.specs.declared.Place.TheVariants.{At, Nowhere}
 
 -- ---- first
 
@@ -120,51 +123,34 @@ find-skip p s (suc n) i full few inside = side (dec_le (length s) i) (λ h. find
 pub skip-inside : (c : ℕ) (s : Bytes) (i : ℕ) → i ≤ length s → i + length (before c (drop i s)) ≤ length s
 skip-inside c s i h = omega (arith, length-before c (drop i s), length-drop i s)
 
-pub skip-at : (c : ℕ) (s t : Bytes) (i n r : ℕ) → i ≤ length s → n ≡ length s - i → t ≡ part s i n → r ≡ length (before c t) → i + r ≡ i + length (before c (drop i s))
-unfolding part
-skip-at c s t i n r h e f g =
-    let rest : take n (drop i s) ≡ drop i s = take_all n (drop i s) (omega (arith, length-drop i s)) in
-    ap (λ (k : ℕ). i + k) (g ∙ ap (λ (x : Bytes). length (before c x)) (f ∙ rest))
-
--- after a skip the pattern first stands where it did
-pub skipped : (p s : Bytes) (i k : ℕ) → 0 < length p → i ≤ length s → k ≡ i + length (before (get_or p 0 0) (drop i s)) → find_from p s i ≡ find p s
+-- after a skip to the pattern's first byte the pattern first stands where it did
+pub skipped : (p s : Bytes) (i k : ℕ) {c : ℕ} → Some c ≡ slice_get p 0 → i ≤ length s → k ≡ i + length (before c (drop i s)) → find_from p s i ≡ find p s
     → find_from p s k ≡ find p s
-skipped p s i k full h e f = ap (find_from p s) e ∙ find-skip p s (length s) i full (omega arith) h ∙ f
+skipped p s i k {c} g h e f =
+    let head : get_or p 0 0 ≡ c = get_or_from_slice_get p 0 c 0 (sym g) in
+    let skip : find_from p s (i + length (before c (drop i s))) ≡ find_from p s i =
+    rw (sym head) (find-skip p s (length s) i (slice_get_within p 0 c (sym g)) (omega arith) h) in
+    ap (find_from p s) e ∙ skip ∙ f
 
 -- an empty pattern stands at 0
-pub find-empty : (p s : Bytes) → length p ≡ 0 → find p s ≡ some 0
-find-empty p s e = sym (find-start p s) ∙ find-here p s 0 (omega arith) (agree-end p s 0 0 (omega arith))
-
--- ---- starts
-
-pub starts-none : (c : ℕ) (s : Bytes) → length s ≡ 0 → starts c s ≡ false
-unfolding starts
-starts-none c [] e = refl
-starts-none c (x ∷ xs) e = absurd (omega arith)
-
-pub starts-first : (c : ℕ) (s : Bytes) → (length s ≡ 0 → ⊥) → starts c s ≡ eqb (get_or s 0 0) c
-unfolding starts
-starts-first c [] e = absurd (e refl)
-starts-first c (x ∷ xs) e = refl
+pub find-empty : (p s : Bytes) → None ≡ slice_get p 0 → find p s ≡ some 0
+find-empty [] s e = sym (find-start [] s) ∙ find-here [] s 0 (omega arith) (agree-end [] s 0 0 (omega arith))
+find-empty (x ∷ xs) s e = cc
 
 -- ---- the answer of a search
 
-pub place-at : (o : Option ℕ) (i : ℕ) → place_of o ≡ At i → o ≡ some i
+pub place-at : (o : Option ℕ) (i : ℕ) → place_of o ≡ Some i → o ≡ some i
 place-at none i e = cc
 place-at (some j) i e = cc
 
-pub place-nowhere : (o : Option ℕ) → place_of o ≡ Nowhere → o ≡ none
+pub place-nowhere : (o : Option ℕ) → place_of o ≡ None → o ≡ none
 place-nowhere none e = refl
 place-nowhere (some j) e = cc
 
--- the rest of a slice from a place on
-pub take-rest : (s : Bytes) (i : ℕ) → take (length s - i) (drop i s) ≡ drop i s
-take-rest s i = take_all (length s - i) (drop i s) (omega (arith, length-drop i s))
-
 -- what a search for the rest of a pattern found
-module _ (p s : Bytes) (k : ℕ) {r : Place} (f : r ≡ place_of (find (take (length p - k) (drop k p)) s)) where
-  pub find-rest : {i : ℕ} → r ≡ At i → find (drop k p) s ≡ some i
-  find-rest {i} e = ap (λ (q : Bytes). find q s) (sym (take-rest p k)) ∙ place-at (find (take (length p - k) (drop k p)) s) i (sym f ∙ e)
+module _ (p s : Bytes) (k : ℕ) {r : std.Option ℕ} (f : r ≡ place_of (find (take (length p - k) (drop k p)) s)) where
+  pub find-rest : {i : ℕ} → r ≡ Some i → find (drop k p) s ≡ some i
+  find-rest {i} e = ap (λ (q : Bytes). find q s) (sym (take_rest p k)) ∙ place-at (find (take (length p - k) (drop k p)) s) i (sym f ∙ e)
 
-  pub find-rest-none : r ≡ Nowhere → find (drop k p) s ≡ none
-  find-rest-none e = ap (λ (q : Bytes). find q s) (sym (take-rest p k)) ∙ place-nowhere (find (take (length p - k) (drop k p)) s) (sym f ∙ e)
+  pub find-rest-none : r ≡ None → find (drop k p) s ≡ none
+  find-rest-none e = ap (λ (q : Bytes). find q s) (sym (take_rest p k)) ∙ place-nowhere (find (take (length p - k) (drop k p)) s) (sym f ∙ e)

@@ -1,9 +1,9 @@
 -- The answer of a search.
-use Rattle.std.specs.Prelude.{ℕ}
-use Rattle.std.proofs.Math.Option.{Option, none, some}
-use Rattle.search.specs.declared.Place.{Place}
-use Rattle.search.specs.declared.Place.TheVariants.{At, Nowhere}
+use Rattle.std.specs.Prelude.{ℕ, Option, None, Some}
+use Rattle.std.proofs.Math.Option as definition
+use Rattle.std.proofs.Math.Option.{none, some}
 
-abbrev pub place_of : Option ℕ → Place
-place_of none = Nowhere
-place_of (some i) = At i
+-- a place as the code returns it
+abbrev pub place_of : definition.Option ℕ → Option ℕ
+place_of none = None
+place_of (some i) = Some i

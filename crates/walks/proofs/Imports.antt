@@ -1,5 +1,6 @@
 -- The short imports and aliases of a record, by what the functions are told.
-use Rattle.std.specs.Prelude.{if◌then◌else◌}
+use Rattle.std.specs.Prelude.{if◌then◌else◌, None, Some}
+use Rattle.std.specs.Prelude as std
 use Prim.Native.Nat.{ℕ, ◌+◌, ◌-◌, ◌≤◌}
 use mathlib.Core.Path.{◌≡◌, sym, ap, ◌∙◌}
 use mathlib.Core.Bool.{Bool, true, false}
@@ -18,7 +19,7 @@ use Rattle.format.specs.Library.{alias_members}
 use Rattle.format.proofs.Strings.{string-get_or}
 use Rattle.names.specs.Mangler.{Demangles, demangled_of}
 use Rattle.names.specs.declared.mangler.Demangled.{Demangled}
-use Rattle.names.specs.declared.mangler.Demangled.TheVariants.{Dropped, Cut, Fails}
+use Rattle.names.specs.declared.mangler.Demangled.TheVariants.{Dropped, Cut}
 use Rattle.plans.specs.Shape.{source_of}
 use Rattle.plans.specs.declared.Source.{Source}
 use Rattle.plans.specs.declared.Source.TheVariants as S
@@ -48,17 +49,17 @@ final-hashed p hashed e f = rw e f
 
 -- ---- the export string in two pieces
 
-module _ (s : Bytes) (r : Demangled) (d : Demangles s r) where
-  pub dropped-some : r ≡ Dropped → 1 ≤ length s
+module _ (s : Bytes) (r : std.Option Demangled) (d : Demangles s r) where
+  pub dropped-some : r ≡ Some Dropped → 1 ≤ length s
   dropped-some e = rw e at d.within
 
-  pub dropped-is : r ≡ Dropped → part s 1 (length s - 1) ++ [] ≡ get_or (demangle s) []
+  pub dropped-is : r ≡ Some Dropped → part s 1 (length s - 1) ++ [] ≡ get_or (demangle s) []
   unfolding demangled_of
   dropped-is e =
       let some_is : some (drop 1 s) ≡ demangle s = rw e at d.name in
       append-nil _ ∙ part-last s 1 (length s - 1) (omega arith) ∙ ap (λ (o : Option Bytes). get_or o []) some_is
 
-  module _ (at : ℕ) (e : r ≡ Cut at) where
+  module _ (at : ℕ) (e : r ≡ Some (Cut at)) where
     pub cut-some : at + 4 ≤ length s
     cut-some = rw e at d.within
 
@@ -68,7 +69,7 @@ module _ (s : Bytes) (r : Demangled) (d : Demangles s r) where
         let some_is : some (take at s ++ drop (at + 3) s) ≡ demangle s = rw e at d.name in
         ap (λ (t : Bytes). take at s ++ t) (part-last s (at + 3) (length s - (at + 3)) (omega arith)) ∙ ap (λ (o : Option Bytes). get_or o []) some_is
 
-  pub fails-is : r ≡ Fails → [] ≡ get_or (demangle s) []
+  pub fails-is : r ≡ None → [] ≡ get_or (demangle s) []
   unfolding demangled_of
   fails-is e =
       let none-is : none ≡ demangle s = rw e at d.name in

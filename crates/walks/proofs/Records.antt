@@ -1,5 +1,6 @@
 -- What is written of a record, by what the functions are told; and the records of a list, one after another.
-use Rattle.std.specs.Prelude.{if◌then◌else◌}
+use Rattle.std.specs.Prelude.{if◌then◌else◌, Ok, Err}
+use Rattle.std.specs.Prelude as std
 use Prim.Native.Nat.{ℕ, zero, suc, ◌+◌, ◌-◌, ◌≤◌, ◌<◌}
 use mathlib.Core.Path.{◌≡◌, refl, sym, ap, ap₂, ◌∙◌}
 use mathlib.Core.Bool.{Bool, true, false, ◌&&◌, ◌||◌, not}
@@ -14,7 +15,7 @@ use borrow.Author.Tests.{eq-eqb, ne_eqb, eqb-false}
 use Rattle.wire.specs.Bytes.{Bytes, same, starts, holds, join, is_some}
 use Rattle.wire.proofs.Bytes.{and-each, not-true}
 use Rattle.format.specs.Machines.{i386, arm64ec}
-use Rattle.format.specs.Names.{hash, question, underscore, at_sign, plain_type, replace, tagged, demangle}
+use Rattle.format.specs.Names.{hash, question, underscore, at_sign, plain_type, tagged, demangle}
 use Rattle.format.specs.Exports.{Export, field_at, absent_at, bytes_at, string_at, is_private, noname, export_at, exports_from}
 use Rattle.format.specs.Plan as P
 use Rattle.format.specs.Plan.{Plan, base, kind, public_name, free, ec_code, choose, choose_named, choose_import, exporting, mangled, plan_choice, plan_public, plan}
@@ -25,15 +26,17 @@ use Rattle.laws.proofs.Lengths.{length-encode-short}
 use Rattle.laws.proofs.Names.{At}
 use Rattle.laws.proofs.Demand3.{answers-is, plain-public}
 use Rattle.coff.specs.Import.{type_number}
+use Rattle.plans.specs.Shape.{source_of, short_of, planned}
+use Rattle.plans.specs.Keys.{key_at, last_in}
+use Rattle.plans.specs.declared.Short.{Short}
+use Rattle.format.specs.declared.Reason.{Reason}
+use Rattle.format.specs.declared.Reason.TheVariants.{NotMangled}
 use Rattle.names.specs.Built.{name_of}
 use Rattle.names.specs.Rename.{Renamed}
-use Rattle.names.specs.declared.rename.Replaced.{Replaced}
-use Rattle.plans.specs.Shape.{source_of, shaped}
-use Rattle.plans.specs.Keys.{key_at, last_in}
-use Rattle.plans.specs.declared.Shape.{Shape}
-use Rattle.plans.specs.declared.Shape.TheVariants as H
+use Rattle.names.specs.declared.built.BuiltName.{BuiltName}
 use Rattle.plans.proofs.Choices.{string-none, string-some}
-use Rattle.plans.proofs.Publics.{public-base, public-renamed}
+use Rattle.names.proofs.Renamings.{name-some}
+use Rattle.plans.proofs.Publics.{public-base}
 use Rattle.plans.proofs.Answering.{last-answering-in}
 use Rattle.keys.specs.Targets.{target_of}
 use Rattle.keys.proofs.Targets.{target-none, target-some}
@@ -121,18 +124,16 @@ module _ (b : Bytes) (k : ℕ) where
   pub target-base : {s : Bytes} → absent_at b (field_at k 1) ≡ true → s ≡ base (export_at b k) → s ≡ get_or (public_name (export_at b k)) []
   target-base a e = e ∙ ap (λ (o : Option Bytes). get_or o []) (sym (public-base b k a))
 
-  pub target-built : {s n x : Bytes} {r : Replaced} → absent_at b (field_at k 1) ≡ false → s ≡ base (export_at b k) → n ≡ bytes_at b (field_at k 0) → x ≡ bytes_at b (field_at k 1)
-      → Renamed (replace s n x) r → is_some (public_name (export_at b k)) ≡ true → name_of r.name ≡ get_or (public_name (export_at b k)) []
+  pub target-there : {r : std.Option BuiltName} → Renamed (public_name (export_at b k)) r → is_some (public_name (export_at b k)) ≡ true → std.IsSome r
   unfolding is_some
-  target-built {s} {n} {x} {r} a e f g h j =
-      let is = public-renamed b k s n x (replace s n x) a e f g refl in
-      pick r.found refl is
-    where
-      pick : (t : Bool) → r.found ≡ t → public_name (export_at b k) ≡ replace s n x → name_of r.name ≡ get_or (public_name (export_at b k)) []
-      pick true t is = sym (ap (λ (o : Option Bytes). get_or o []) (is ∙ h.given t))
-      pick false t is =
-          let no : is_some {A = Bytes} none ≡ true = ap is_some (sym (is ∙ h.fails t)) ∙ j in
-          let z : ◌≡◌ {A = ℕ} 0 1 = cc in absurd (omega arith)
+  target-there {r = std.Some n} h e = refl
+  target-there {r = std.None} h e =
+      let no : is_some {A = Bytes} none ≡ true = ap is_some h.name ∙ e in
+      let z : ◌≡◌ {A = ℕ} 0 1 = cc in absurd (omega arith)
+
+  pub target-built : {s : Bytes} {r : std.Option BuiltName} {n : BuiltName} → Renamed (public_name (export_at b k)) r → r ≡ std.Some n → s ≡ name_of n
+      → s ≡ get_or (public_name (export_at b k)) []
+  target-built h e f = sym (ap (λ (o : Option Bytes). get_or o []) (name-some h e f))
 
 pub alias-of : (machine : ℕ) (p : Bytes) {k j : ℕ} {s t : Bytes} → k ≡ j → s ≡ t → alias_members machine k s p ≡ alias_members machine j t p
 alias-of machine p e f = rw (e, f)
@@ -155,7 +156,7 @@ mangled-now f p t x = pick (not (starts question p || starts hash p)) (starts ha
   where
     pick : (a b f : Bool) → is_deferred (exporting p (demangle p)) ≡ false
         → is_deferred (if a then (if f then P.plain (hash ∷ p) 4 p else P.plain (hash ∷ p) t x)
-        else if b then (if f then exporting p (demangle p) else P.plain p t x) else (if f then P.refused 13 else P.plain p t x)) ≡ false
+        else if b then (if f then exporting p (demangle p) else P.plain p t x) else (if f then P.refused NotMangled else P.plain p t x)) ≡ false
     pick true b true h = refl
     pick true b false h = refl
     pick false true true h = h
@@ -191,9 +192,9 @@ import-absent : (b : Bytes) (k : ℕ) → absent_at b (field_at k 3) ≡ true �
 unfolding export_at
 import-absent b k a = string-none b (field_at k 3) a
 
-pub deferred-wanted : (machine : ℕ) (mingw : Bool) (b : Bytes) (k : ℕ) (p : Bytes) → shaped (export_at b k) p H.Deferred ≡ plan_public machine mingw (export_at b k) (some p)
+pub deferred-wanted : (machine : ℕ) (mingw : Bool) (b : Bytes) (k : ℕ) (p : Bytes) → planned (export_at b k) p (Ok std.None) ≡ plan_public machine mingw (export_at b k) (some p)
     → absent_at b (field_at k 3) ≡ false
-unfolding shaped
+unfolding planned
 deferred-wanted machine mingw b k p h = pick (absent_at b (field_at k 3)) refl
   where
     pick : (t : Bool) → absent_at b (field_at k 3) ≡ t → t ≡ false
@@ -217,8 +218,8 @@ unfolding plan_public
 deferred-ec e mingw [] = refl
 deferred-ec e mingw (c ∷ cs) = chosen-now e mingw (c ∷ cs)
 
-pub deferred-native : (machine : ℕ) (mingw : Bool) (e : Export) (p : Bytes) → shaped e p H.Deferred ≡ plan_public machine mingw e (some p) → machine ≡ arm64ec → ⊥
-unfolding shaped
+pub deferred-native : (machine : ℕ) (mingw : Bool) (e : Export) (p : Bytes) → planned e p (Ok std.None) ≡ plan_public machine mingw e (some p) → machine ≡ arm64ec → ⊥
+unfolding planned
 deferred-native machine mingw e p h m =
     let no : is_deferred (plan_public arm64ec mingw e (some p)) ≡ true = ap is_deferred (sym (rw m at h)) in
     let both : true ≡ false = sym no ∙ deferred-ec e mingw p in
@@ -323,35 +324,35 @@ module _ (machine : ℕ) (mingw : Bool) (dll : Bytes) (es : List Export) (e : Ex
 
 -- ---- a record under its public name
 
-module _ (machine : ℕ) (mingw later : Bool) (dll : Bytes) (es : List Export) (e : Export) (p : Bytes) (r : Shape) {q : Plan} (h : shaped e p r ≡ q) where
-  module _ (hashed : Bool) (t : _) (x : _) (is : r ≡ H.Short hashed t x) where
+module _ (machine : ℕ) (mingw later : Bool) (dll : Bytes) (es : List Export) (e : Export) (p : Bytes) {q : Plan} where
+  module _ (s : Short) (h : planned e p (Ok (std.Some s)) ≡ q) where
     pub short-later : later ≡ true → [] ≡ drawn later machine mingw dll es e q
-    unfolding shaped deferred_member
-    short-later l = let g = rw is at h in rw (l, ← g)
+    unfolding planned short_of deferred_member
+    short-later l = rw (l, ← h)
 
-    pub short-now : later ≡ false → import_of machine e (type_number t) (if hashed then hash ∷ p else p) dll (source_of e p x) ∷ [] ≡ drawn later machine mingw dll es e q
-    unfolding shaped short_member
-    short-now l = let g = rw is at h in rw (l, ← g)
+    pub short-now : later ≡ false
+        → import_of machine e (type_number s.name_type) (if s.hashed then hash ∷ p else p) dll (source_of e p s.«export») ∷ [] ≡ drawn later machine mingw dll es e q
+    unfolding planned short_of short_member
+    short-now l = rw (l, ← h)
 
-  module _ (is : r ≡ H.Deferred) where
-    pub deferred-now : later ≡ false → [] ≡ drawn later machine mingw dll es e q
-    unfolding shaped short_member
-    deferred-now l = let g = rw is at h in rw (l, ← g)
+  pub deferred-now : planned e p (Ok std.None) ≡ q → later ≡ false → [] ≡ drawn later machine mingw dll es e q
+  unfolding planned short_member
+  deferred-now h l = rw (l, ← h)
 
-  pub refused-either : (n : ℕ) → r ≡ H.Refused n → [] ≡ drawn later machine mingw dll es e q
-  unfolding shaped short_member deferred_member
-  refused-either n is = let g = rw is at h in rw (← g) (pick later)
+  pub refused-either : (n : Reason) → planned e p (Err n) ≡ q → [] ≡ drawn later machine mingw dll es e q
+  unfolding planned short_member deferred_member
+  refused-either n h = rw (← h) (pick later)
     where
       pick : (l : Bool) → ◌≡◌ {A = List Member} [] (if l then [] else [])
       pick true = refl
       pick false = refl
 
-pub deferred-later : (machine : ℕ) (mingw later : Bool) (dll : Bytes) (es : List Export) (b : Bytes) (k : ℕ) (p : Bytes) (r : Shape) {q : Plan}
-    → shaped (export_at b k) p r ≡ q → r ≡ H.Deferred → later ≡ true
+pub deferred-later : (machine : ℕ) (mingw later : Bool) (dll : Bytes) (es : List Export) (b : Bytes) (k : ℕ) (p : Bytes) {q : Plan}
+    → planned (export_at b k) p (Ok std.None) ≡ q → later ≡ true
     → alias_or_short machine mingw dll (export_at b k) p (bytes_at b (field_at k 3)) (last_answering machine mingw (bytes_at b (field_at k 3)) es) ≡ drawn later machine mingw dll es (export_at b k) q
-unfolding shaped deferred_member export_at
-deferred-later machine mingw later dll es b k p r h is l =
-    let g = rw is at h in rw (l, ← g, string-get_or b (field_at k 3))
+unfolding planned deferred_member export_at
+deferred-later machine mingw later dll es b k p h l =
+    rw (l, ← h, string-get_or b (field_at k 3))
 
 -- ---- a record
 

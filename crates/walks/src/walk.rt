@@ -1,5 +1,5 @@
 // The walk over one list: each record's short import, and after all of them what was deferred.
-ghost use Rattle.std.specs.Prelude.{◌≡◌, true, false, [], ◌∷◌, ◌++◌, ◌-◌, ◌≤◌, ◌<◌, length, if◌then◌else◌};
+ghost use Rattle.std.specs.Prelude.{◌≡◌, true, false, [], ◌∷◌, ◌++◌, ◌-◌, ◌≤◌, ◌<◌, length, if◌then◌else◌, Ok};
 ghost use Rattle.std.proofs.Math.Option.{some, get_or};
 ghost use Rattle.wire.specs.Bytes.{is_some};
 ghost use Rattle.format.specs.Machines.{arm64ec};
@@ -8,7 +8,6 @@ ghost use Rattle.format.specs.Names.{hash, demangle};
 ghost use Rattle.format.specs.Plan.{kind, public_name, plan_public};
 ghost use Rattle.format.specs.Library.{alias_members, alias_or_short, last_answering, members_of};
 ghost use Rattle.format.specs.Refusals.{check_list};
-ghost use Rattle.format.specs.declared.Checked.TheVariants.{Fine};
 ghost use Rattle.coff.specs.Import.{kind_number, type_number};
 ghost use Rattle.lists.specs.Held.{Held};
 ghost use Rattle.plans.specs.Shape.{source_of};
@@ -21,8 +20,9 @@ use coff::constants::IMAGE_FILE_MACHINE_ARM64EC;
 use coff::import::{ImportNameType, ImportType};
 use keys::NO_TARGET;
 use lists::record;
-use names::{mangler, rename};
-use plans::{Shape, Source, plan};
+use names::mangler;
+use names::mangler::Demangled;
+use plans::{Short, Source, plan, public};
 
 // A record's short import; its export string is given in two pieces.
 fn draw_import(
@@ -77,19 +77,17 @@ fn draw_demangled(
 {
     let n = public.len();
     match mangler::get_arm64ec_demangled_function_name(public) {
-        mangler::Demangled::Dropped => {
+        Some(Demangled::Dropped) => {
             let rest = wire::part(public, 1, n - 1);
             draw_import(out, pen, b, k, sym, dll, name_type, rest, b"", machine)
         }
-        mangler::Demangled::Cut { at } => {
+        Some(Demangled::Cut { at }) => {
             let after = at + mangler::TAG_LEN;
             let head = wire::part(public, 0, at);
             let tail = wire::part(public, after, n - after);
             draw_import(out, pen, b, k, sym, dll, name_type, head, tail, machine)
         }
-        mangler::Demangled::Fails => draw_import(
-            out, pen, b, k, sym, dll, name_type, b"", b"", machine,
-        ),
+        None => draw_import(out, pen, b, k, sym, dll, name_type, b"", b"", machine),
     }
 }
 
@@ -149,34 +147,39 @@ fn draw_final(
     b: &[u8],
     k: u32,
     dll: &[u8],
-    hashed: bool,
-    name_type: ImportNameType,
-    export: Source,
+    short: Short,
     public: &[u8],
     machine: u16,
 ) -> u64
-    requires room { Room (entry_of pen) (at_of pen) (import_of machine (export_at b.now k) (type_number name_type) (if hashed then hash ∷ public.now else public.now) dll.now (source_of (export_at b.now k) public.now «export») ∷ []) }
+    requires room { Room (entry_of pen) (at_of pen) (import_of machine (export_at b.now k) (type_number short.name_type) (if short.hashed then hash ∷ public.now else public.now) dll.now (source_of (export_at b.now k) public.now short.«export») ∷ []) }
     requires held { Held b.now k }
     requires dll_len_bound { (length dll.now ≤ 255) × (length public.now ≤ 8189) }
-    ensures { Drew out.old (entry_of pen) (at_of pen) (import_of machine (export_at b.now k) (type_number name_type) (if hashed then hash ∷ public.now else public.now) dll.now (source_of (export_at b.now k) public.now «export») ∷ []) out.new (entry_of result) (at_of result) }
+    ensures { Drew out.old (entry_of pen) (at_of pen) (import_of machine (export_at b.now k) (type_number short.name_type) (if short.hashed then hash ∷ public.now else public.now) dll.now (source_of (export_at b.now k) public.now short.«export») ∷ []) out.new (entry_of result) (at_of result) }
 {
-    if !hashed {
+    if !short.hashed {
         return draw_source(
-            out, pen, b, k, public, dll, name_type, export, public, machine,
+            out,
+            pen,
+            b,
+            k,
+            public,
+            dll,
+            short.name_type,
+            short.export,
+            public,
+            machine,
         );
     }
     let name = mangler::mangled(public);
-    let bytes = name.bytes;
-    let n = name.len;
     draw_source(
         out,
         pen,
         b,
         k,
-        &bytes[..n],
+        name.as_slice(),
         dll,
-        name_type,
-        export,
+        short.name_type,
+        short.export,
         public,
         machine,
     )
@@ -229,15 +232,8 @@ fn draw_alias_to(
             machine,
         );
     }
-    let r = rename::replace(
-        record::base(b, other),
-        record::string(b, other, record::NAME),
-        record::string(b, other, record::EXT_NAME),
-    );
-    let name = r.name;
-    let bytes = name.bytes;
-    let n = name.len;
-    draw_alias(out, pen, import_type, &bytes[..n], public, machine)
+    let name = public::renamed(b, other).unwrap();
+    draw_alias(out, pen, import_type, name.as_slice(), public, machine)
 }
 
 // What is written of a deferred record: aliases of the last import that answers to its import_name, or an import that exports it.
@@ -256,7 +252,7 @@ fn draw_deferred(
 ) -> u64
     requires room { Room (entry_of pen) (at_of pen) (alias_or_short machine mingw dll.now (export_at b.now k) public.now (bytes_at b.now (field_at k 3)) (last_answering machine mingw (bytes_at b.now (field_at k 3)) (exports_from b.now from (to - from)))) }
     requires held { Held b.now k }
-    requires b_value { check_list b.now ≡ Fine }
+    requires b_value { check_list b.now ≡ Ok tt }
     requires not_arm64ec { machine ≡ arm64ec → ⊥ }
     requires from_le_k { (from ≤ k) × (k < to) × (to ≤ both_counts b.now) }
     requires dll_len_bound { (length dll.now ≤ 255) × (length public.now ≤ 8189) }
@@ -318,7 +314,7 @@ fn draw_named(
 ) -> u64
     requires room { Room (entry_of pen) (at_of pen) (drawn later machine mingw dll.now (exports_from b.now from (to - from)) (export_at b.now k) (plan_public machine mingw (export_at b.now k) (some public.now))) }
     requires held { Held b.now k }
-    requires b_value { check_list b.now ≡ Fine }
+    requires b_value { check_list b.now ≡ Ok tt }
     requires from_le_k { (from ≤ k) × (k < to) × (to ≤ both_counts b.now) }
     requires dll_len_bound { (length dll.now ≤ 255) × (length public.now ≤ 8189) }
     requires resolved { (machine ≡ arm64ec → ⊥) → Resolved machine mingw b.now from (to - from) targets.now }
@@ -342,19 +338,13 @@ fn draw_named(
         );
     }
     match plan(b, k, machine, mingw, public) {
-        Shape::Short {
-            hashed,
-            name_type,
-            export,
-        } => {
+        Ok(Some(short)) => {
             if later {
                 return pen;
             }
-            draw_final(
-                out, pen, b, k, dll, hashed, name_type, export, public, machine,
-            )
+            draw_final(out, pen, b, k, dll, short, public, machine)
         }
-        Shape::Deferred => {
+        Ok(None) => {
             if !later {
                 return pen;
             }
@@ -362,7 +352,7 @@ fn draw_named(
                 out, pen, b, k, dll, public, machine, mingw, from, to, targets,
             )
         }
-        Shape::Refused { number: _ } => pen,
+        Err(_) => pen,
     }
 }
 
@@ -383,7 +373,7 @@ fn draw_record(
 ) -> u64
     requires room { Room (entry_of pen) (at_of pen) (record_members later machine mingw dll.now (exports_from b.now from (to - from)) b.now k) }
     requires held { Held b.now k }
-    requires b_value { check_list b.now ≡ Fine }
+    requires b_value { check_list b.now ≡ Ok tt }
     requires from_le_k { (from ≤ k) × (k < to) × (to ≤ both_counts b.now) }
     requires dll_len_bound { length dll.now ≤ 255 }
     requires resolved { (machine ≡ arm64ec → ⊥) → Resolved machine mingw b.now from (to - from) targets.now }
@@ -411,25 +401,16 @@ fn draw_record(
             targets,
         );
     }
-    let r = rename::replace(
-        record::base(b, k),
-        record::string(b, k, record::NAME),
-        record::string(b, k, record::EXT_NAME),
-    );
-    let found = r.found;
-    if !found {
+    let Some(name) = public::renamed(b, k) else {
         return pen;
-    }
-    let name = r.name;
-    let bytes = name.bytes;
-    let n = name.len;
+    };
     draw_named(
         out,
         pen,
         b,
         k,
         dll,
-        &bytes[..n],
+        name.as_slice(),
         machine,
         mingw,
         from,
@@ -453,19 +434,17 @@ fn draw_pass(
     targets: &[u16],
 ) -> u64
     requires room { Room (entry_of pen) (at_of pen) (pass_members later machine mingw dll.now (exports_from b.now from (to - from)) b.now from (to - from)) }
-    requires b_value { check_list b.now ≡ Fine }
+    requires b_value { check_list b.now ≡ Ok tt }
     requires from_le_to { (from ≤ to) × (to ≤ both_counts b.now) }
     requires dll_len_bound { length dll.now ≤ 255 }
     requires resolved { (machine ≡ arm64ec → ⊥) → Resolved machine mingw b.now from (to - from) targets.now }
     ensures { Drew out.old (entry_of pen) (at_of pen) (pass_members later machine mingw dll.now (exports_from b.now from (to - from)) b.now from (to - from)) out.new (entry_of result) (at_of result) }
 {
     let mut next = pen;
-    let mut k = from;
-    while k < to {
+    for k in from..to {
         next = draw_record(
             out, next, b, k, dll, machine, mingw, from, to, later, targets,
         );
-        k += 1;
     }
     next
 }
@@ -483,7 +462,7 @@ pub fn draw_list(
     targets: &[u16],
 ) -> u64
     requires room { Room (entry_of pen) (at_of pen) (members_of machine mingw dll.now (exports_from b.now from (to - from))) }
-    requires b_value { check_list b.now ≡ Fine }
+    requires b_value { check_list b.now ≡ Ok tt }
     requires from_le_to { (from ≤ to) × (to ≤ both_counts b.now) }
     requires dll_len_bound { length dll.now ≤ 255 }
     requires resolved { (machine ≡ arm64ec → ⊥) → Resolved machine mingw b.now from (to - from) targets.now }

@@ -1,11 +1,11 @@
 // What the Rust answered to a case, compared with what the writer answers and leaves in its output.
-ghost use Rattle.std.specs.Prelude.{◌≡◌, true, ◌++◌, length, drop};
+ghost use Rattle.std.specs.Prelude.{◌≡◌, true, ◌++◌, length, drop, Ok, Err};
 ghost use Rattle.wire.specs.Bytes.{Bytes};
 ghost use Rattle.format.specs.Answers as Answers;
-ghost use Rattle.format.specs.declared.Written.TheVariants.{Total, Refused};
-ghost use Rattle.write_run.specs.Kept.{options, answer, output, Agrees};
+ghost use Rattle.format.specs.Numbers.{number_of};
+ghost use Rattle.write_run.specs.Kept.{options, kept_of, output, Agrees};
 
-use format::Written;
+use format::Refusal;
 
 // What the slots hold before the writer works in them: any number will do.
 const STRANGE: u32 = 7;
@@ -18,7 +18,7 @@ pub struct Asked {
     pub compat: bool,
 }
 
-// The Rust's answer: number 0 and the total, or the refusal's number and place.
+// The Rust's answer, as the list has it in two words: number 0 and the total, or the refusal's number and place.
 #[derive(Clone, Copy)]
 pub struct Kept {
     pub number: u32,
@@ -44,7 +44,7 @@ fn holds(set: &[u8], before: &[u8], out: &[u8]) -> bool
 
 // Whether the Rust wrote this total and this output.
 fn is_written(total: usize, kept: Kept, set: &[u8], before: &[u8], out: &[u8]) -> bool
-    ensures { result ≡ true → (Total total ≡ answer kept) × (kept.value ≡ length set.now) × (out.now ≡ output kept set.now before.now) }
+    ensures { result ≡ true → (kept_of (Ok total) ≡ kept) × (kept.value ≡ length set.now) × (out.now ≡ output kept set.now before.now) }
 {
     if kept.number != 0 {
         return false;
@@ -58,17 +58,17 @@ fn is_written(total: usize, kept: Kept, set: &[u8], before: &[u8], out: &[u8]) -
     holds(set, before, out)
 }
 
-// Whether the Rust refused with this number and place, and the output is what it was before.
-fn is_refused(number: u32, place: u32, kept: Kept, before: &[u8], out: &[u8]) -> bool
-    ensures { result ≡ true → (Refused number place ≡ answer kept) × (kept.number ≡ 0 → ⊥) × ((set : Bytes) → out.now ≡ output kept set before.now) }
+// Whether the Rust refused with this refusal's number and place, and the output is what it was before.
+fn is_refused(refusal: Refusal, kept: Kept, before: &[u8], out: &[u8]) -> bool
+    ensures { result ≡ true → (kept_of (Err refusal) ≡ kept) × (kept.number ≡ 0 → ⊥) × ((set : Bytes) → out.now ≡ output kept set before.now) }
 {
     if kept.number == 0 {
         return false;
     }
-    if number != kept.number {
+    if refusal.reason.number() != kept.number {
         return false;
     }
-    if place != kept.value {
+    if refusal.place != kept.value {
         return false;
     }
     wire::same(out, before)
@@ -76,10 +76,10 @@ fn is_refused(number: u32, place: u32, kept: Kept, before: &[u8], out: &[u8]) ->
 
 // Whether asking answers as the Rust did; of a set that was too large for the output it says nothing.
 fn is_asked(list: &[u8], asked: Asked, kept: Kept) -> bool
-    ensures { result ≡ true → (kept.number ≡ 15 → ⊥) → Answers.asked (options asked) list.now ≡ answer kept }
+    ensures { result ≡ true → (kept.number ≡ 15 → ⊥) → kept_of (Answers.asked (options asked) list.now) ≡ kept }
 {
     match library::total(list, asked.machine, asked.mingw, asked.compat) {
-        Written::Total(n) => {
+        Ok(n) => {
             if kept.number == 15 {
                 return true;
             }
@@ -88,14 +88,11 @@ fn is_asked(list: &[u8], asked: Asked, kept: Kept) -> bool
             }
             n == kept.value as usize
         }
-        Written::Refused { number, place } => {
-            if kept.number == 0 {
+        Err(refusal) => {
+            if refusal.reason.number() != kept.number {
                 return false;
             }
-            if number != kept.number {
-                return false;
-            }
-            place == kept.value
+            refusal.place == kept.value
         }
     }
 }
@@ -124,7 +121,7 @@ pub fn agrees(
         &mut slots,
         out,
     ) {
-        Written::Total(n) => is_written(n, kept, set, before, out),
-        Written::Refused { number, place } => is_refused(number, place, kept, before, out),
+        Ok(n) => is_written(n, kept, set, before, out),
+        Err(refusal) => is_refused(refusal, kept, before, out),
     }
 }

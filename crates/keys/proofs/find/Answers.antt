@@ -1,4 +1,5 @@
 -- `keys::find` meets its contract.
+use Rattle.std.specs.Prelude.{Some}
 use Rattle.std.proofs.Common.{sym, ap, ◌∙◌, arith}
 use Rattle.format.specs.Exports.{both_counts}
 use Rattle.lists.proofs.Records.{held}
@@ -14,20 +15,20 @@ seek-requires c =
 
 pub overflow_cast-result : goal.overflow_cast-result
 overflow_cast-result c =
-    let old = found-old _ (key-one _ _ _) _ _ _ c.requires.entered _ (sym c.in-Used.is ∙ c.seek.ensures) in
-    omega (arith, (held _ c.in-Used.k c.requires.b_value (omega (arith, old, c.requires.from_le_to.0, c.requires.from_le_to.1))).counted)
+    let old = found-old _ (key-one _ _ _) _ _ _ c.requires.entered _ (sym (c.in-Some-Used.is ∙ ap Some c.in-Some-Used.field-0-is) ∙ c.seek.ensures) in
+    omega (arith, (held _ c.in-Some-Used.k c.requires.b_value (omega (arith, old, c.requires.from_le_to.0, c.requires.from_le_to.1))).counted)
 
-pub returns-in-Free : goal.returns-in-Free
+pub returns-in-Some-Free : goal.returns-in-Some-Free
 unfolding target_of
-returns-in-Free c =
-    ap target_of (found-last _ (key-one _ _ _) _ _ _ c.requires.entered _ (sym c.in-Free.is ∙ c.seek.ensures))
+returns-in-Some-Free c =
+    ap target_of (found-last _ (key-one _ _ _) _ _ _ c.requires.entered _ (sym (c.in-Some-Free.is ∙ ap Some c.in-Some-Free.field-0-is) ∙ c.seek.ensures))
 
-pub returns-in-Used : goal.returns-in-Used
+pub returns-in-Some-Used : goal.returns-in-Some-Used
 unfolding target_of
-returns-in-Used c =
-    ap target_of (found-last _ (key-one _ _ _) _ _ _ c.requires.entered _ (sym c.in-Used.is ∙ c.seek.ensures))
+returns-in-Some-Used c =
+    ap target_of (found-last _ (key-one _ _ _) _ _ _ c.requires.entered _ (sym (c.in-Some-Used.is ∙ ap Some c.in-Some-Used.field-0-is) ∙ c.seek.ensures))
 
-pub returns-in-Full : goal.returns-in-Full
+pub returns-in-None : goal.returns-in-None
 unfolding target_of
-returns-in-Full c =
-    ap target_of (found-last _ (key-one _ _ _) _ _ _ c.requires.entered _ (sym c.in-Full.is ∙ c.seek.ensures))
+returns-in-None c =
+    ap target_of (found-last _ (key-one _ _ _) _ _ _ c.requires.entered _ (sym c.in-None.is ∙ c.seek.ensures))

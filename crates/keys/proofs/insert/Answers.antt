@@ -1,5 +1,6 @@
 -- `keys::insert` meets its contract.
-use Rattle.std.proofs.Common.{sym, refl, ◌∙◌, arith}
+use Rattle.std.specs.Prelude.{Some}
+use Rattle.std.proofs.Common.{sym, refl, ap, ◌∙◌, arith}
 use Rattle.format.specs.Exports.{both_counts}
 use Rattle.keys.proofs.Keyed.{key-one}
 use Rattle.keys.proofs.Slots.{room-left, stopped, unstopped, insert-by, within-by}
@@ -12,24 +13,24 @@ seek-requires c =
 
 pub put-requires : goal.put-requires
 put-requires c =
-    let stop = stopped _ _ _ (sym c.in-Free.is ∙ c.seek.ensures) refl in
+    let stop = stopped _ _ _ (sym (c.in-Some-Free.is ∙ ap Some c.in-Some-Free.field-0-is) ∙ c.seek.ensures) refl in
     omega (arith, stop.at, c.requires.in_bounds)
 
-pub put-requires-in-Used : goal.put-requires-in-Used
-put-requires-in-Used c =
-    let stop = stopped _ _ _ (sym c.in-Used.is ∙ c.seek.ensures) refl in
+pub put-requires-in-Some-Used : goal.put-requires-in-Some-Used
+put-requires-in-Some-Used c =
+    let stop = stopped _ _ _ (sym (c.in-Some-Used.is ∙ ap Some c.in-Some-Used.field-0-is) ∙ c.seek.ensures) refl in
     omega (arith, stop.at, c.requires.in_bounds)
 
-pub returns-in-Free : goal.returns-in-Free
-returns-in-Free c =
-    let stop = stopped _ _ _ (sym c.in-Free.is ∙ c.seek.ensures) refl in
+pub returns-in-Some-Free : goal.returns-in-Some-Free
+returns-in-Some-Free c =
+    let stop = stopped _ _ _ (sym (c.in-Some-Free.is ∙ ap Some c.in-Some-Free.field-0-is) ∙ c.seek.ensures) refl in
     insert-by _ (key-one _ _ _) _ _ c.args.slots.now _ _ c.hash-h.ensures stop c.requires.in_bounds c.holding.ensures c.put.ensures c.requires.from_le_k.0 c.requires.k_value c.requires.entered
 
-pub returns-in-Used : goal.returns-in-Used
-returns-in-Used c =
-    let stop = stopped _ _ _ (sym c.in-Used.is ∙ c.seek.ensures) refl in
-    insert-by _ (key-one _ _ _) _ _ c.args.slots.now _ _ c.hash-h.ensures stop c.requires.in_bounds c.holding-last.ensures c.put-in-Used.ensures c.requires.from_le_k.0 c.requires.k_value c.requires.entered
+pub returns-in-Some-Used : goal.returns-in-Some-Used
+returns-in-Some-Used c =
+    let stop = stopped _ _ _ (sym (c.in-Some-Used.is ∙ ap Some c.in-Some-Used.field-0-is) ∙ c.seek.ensures) refl in
+    insert-by _ (key-one _ _ _) _ _ c.args.slots.now _ _ c.hash-h.ensures stop c.requires.in_bounds c.holding-last.ensures c.put-in-Some-Used.ensures c.requires.from_le_k.0 c.requires.k_value c.requires.entered
 
-pub returns-in-Full : goal.returns-in-Full
-returns-in-Full c =
-    absurd (room-left _ _ _ _ _ c.requires.entered (omega (arith, c.requires.from_le_k.2)) (unstopped _ _ _ (sym c.in-Full.is ∙ c.seek.ensures)))
+pub returns-in-None : goal.returns-in-None
+returns-in-None c =
+    absurd (room-left _ _ _ _ _ c.requires.entered (omega (arith, c.requires.from_le_k.2)) (unstopped _ _ _ (sym c.in-None.is ∙ c.seek.ensures)))

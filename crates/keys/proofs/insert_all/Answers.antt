@@ -1,4 +1,4 @@
-use Rattle.std.proofs.Common.{◌<◌, refl, ◌∙◌, arith, rules}
+use Rattle.std.proofs.Common.{◌<◌, refl, ◌∙◌, arith}
 use Rattle.lists.proofs.Records.{held}
 use Rattle.format.specs.Exports.{both_counts}
 use Rattle.keys.proofs.Slots.{clear-by, all-by}
@@ -10,21 +10,21 @@ clear-requires c =
 
 pub loop-k-init : goal.loop-k-init
 loop-k-init c =
-    (search rules, c.requires.from_le_to.0, refl, clear-by _ _ _ c.clear.ensures)
+    (refl, clear-by _ _ _ c.clear.ensures)
 
 pub insert_record-requires : goal.insert_record-requires
 insert_record-requires c =
     let inside : c.loop-k.k < both_counts c.args.b.now = omega (arith, c.loop-k-test.true, c.requires.from_le_to.1) in
-    record { in_bounds = omega (arith, c.loop-k.invariant.2, c.clear.auto.slots, c.requires.in_bounds); entered = c.loop-k.invariant.3; b_value = c.requires.b_value; not_arm64ec = c.requires.not_arm64ec; from_le_k = (c.loop-k.invariant.0, inside); held = held _ _ c.requires.b_value inside }
+    record { in_bounds = omega (arith, c.loop-k.invariant.0, c.clear.auto.slots, c.requires.in_bounds); entered = c.loop-k.invariant.1; b_value = c.requires.b_value; not_arm64ec = c.requires.not_arm64ec; from_le_k = (omega arith, inside); held = held _ _ c.requires.b_value inside }
 
 pub loop-k-preserved : goal.loop-k-preserved
 loop-k-preserved c =
-    (omega arith, omega arith, c.insert_record.auto.slots ∙ c.loop-k.invariant.2, c.insert_record.ensures)
+    (c.insert_record.auto.slots ∙ c.loop-k.invariant.0, c.insert_record.ensures)
 
 pub shape_of-slots : goal.shape_of-slots
 shape_of-slots c =
-    c.loop-k.invariant.2 ∙ c.clear.auto.slots
+    c.loop-k.invariant.0 ∙ c.clear.auto.slots
 
 pub returns : goal.returns
 returns c =
-    all-by _ _ c.loop-k.k _ _ c.loop-k.invariant.1 (omega (arith, c.loop-k-test.false)) c.loop-k.invariant.3
+    all-by _ _ c.loop-k.k _ _ (omega (arith, c.requires.from_le_to.0)) (omega (arith, c.loop-k-test.false)) c.loop-k.invariant.1

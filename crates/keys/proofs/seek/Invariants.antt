@@ -1,13 +1,10 @@
--- `keys::seek` meets its contract. The loop's invariant: the search ends at none of the slots that were tried.
-use Rattle.std.proofs.Common.{◌≡◌, ◌-◌, ◌≤◌}
+-- The search ends at none of the slots that were tried.
+use Rattle.std.proofs.Common.{◌≡◌, ◌-◌}
 use Rattle.wire.specs.Bytes.{first}
 use Rattle.plans.specs.Keys.{key_at}
 use Rattle.keys.specs.Slots.{slot_at, ends}
 use Rattle.keys.proofs.seek.Given as goal
 
 abbrev pub invariant-loop-d : goal.invariant-loop-d
-invariant-loop-d l = (l.d ≤ 8192)
-    × (first (ends (key_at l.machine l.mingw l.b) (slot_at l.slots) l.key) 0 8192 ≡ first (ends (key_at l.machine l.mingw l.b) (slot_at l.slots) l.key) l.d (8192 - l.d))
-
-abbrev pub decreases-loop-d : goal.decreases-loop-d
-decreases-loop-d l = 8192 - l.d
+invariant-loop-d l =
+    first (ends (key_at l.machine l.mingw l.b) (slot_at l.slots) l.key) 0 8192 ≡ first (ends (key_at l.machine l.mingw l.b) (slot_at l.slots) l.key) l.d (8192 - l.d)

@@ -1,17 +1,20 @@
 -- `library::total` meets its contract.
-use Rattle.library.proofs.MemberSets.{accepted-by, refused-by, asked-stop, asked-total}
+use mathlib.Core.Path.{◌∙◌}
+use Rattle.format.proofs.Rows.{passed-on}
+use Rattle.plans.proofs.Accepting.{accepted-by, refused-by}
+use Rattle.library.proofs.MemberSets.{asked-stop, asked-total}
 use Rattle.library.proofs.total.Goals as goal
+
+pub returns-in_err-known : goal.returns-in_err-known
+returns-in_err-known c =
+    passed-on _ c.from_residual.ensures.1 ∙ asked-stop _ _ _ (refused-by c.in_err-known.was (c.accept.ensures _))
 
 pub total_accepted-requires : goal.total_accepted-requires
 total_accepted-requires c =
-    let (e, n, is) = accepted-by c.in-By.is (c.accept.ensures c.args.whole_archive_compat) in
+    let (e, n, is) = accepted-by c.in_ok-known.was (c.accept.ensures c.args.whole_archive_compat) in
     record { b_value = rw n e; machine = is }
 
-pub returns-in-By : goal.returns-in-By
-returns-in-By c =
-    let (e, n, is) = accepted-by c.in-By.is (c.accept.ensures c.args.whole_archive_compat) in
+pub returns : goal.returns
+returns c =
+    let (e, n, is) = accepted-by c.in_ok-known.was (c.accept.ensures c.args.whole_archive_compat) in
     asked-total _ _ e (rw n at c.total_accepted.ensures)
-
-pub returns-in-Refused : goal.returns-in-Refused
-returns-in-Refused c =
-    asked-stop _ _ _ _ (refused-by c.in-Refused.is (c.accept.ensures _))

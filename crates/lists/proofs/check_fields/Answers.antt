@@ -1,21 +1,18 @@
-use borrow.Author.Rules.{rules}
 use mathlib.Core.Path.{refl, sym, ◌∙◌}
-use Rattle.format.proofs.Rows.{rows-more, rows-stop, rows-end}
+use Rattle.format.proofs.Rows.{passed-on, rows-more, rows-stop, rows-end}
 use Rattle.lists.proofs.check_fields.Goals as goal
 
 pub loop-f-init : goal.loop-f-init
-loop-f-init c = (search rules, refl)
+loop-f-init c = refl
 
-pub returns-in-Refused : goal.returns-in-Refused
-returns-in-Refused c =
-    sym (c.loop-f.invariant.1 ∙ rows-stop _ _ _ _ _ c.loop-f-test.true (sym c.check_field-checked.ensures ∙ c.in-Refused.is))
+pub returns-in_err-check_field : goal.returns-in_err-check_field
+returns-in_err-check_field c =
+    passed-on _ c.from_residual.ensures.1
+    ∙ sym (c.loop-f.invariant ∙ rows-stop _ _ _ _ c.loop-f-test.true (sym c.check_field.ensures ∙ c.in_err-check_field.was))
 
 pub loop-f-preserved : goal.loop-f-preserved
-loop-f-preserved c = (
-  search rules,
-  c.loop-f.invariant.1
-      ∙ rows-more _ _ _ c.loop-f-test.true (sym c.check_field-checked.ensures ∙ c.in_default.is),
-)
+loop-f-preserved c =
+    c.loop-f.invariant ∙ rows-more _ _ _ c.loop-f-test.true (sym c.check_field.ensures ∙ c.in_ok-check_field.was)
 
 pub returns : goal.returns
-returns c = sym (c.loop-f.invariant.1 ∙ rows-end _ _ _ c.loop-f-test.false)
+returns c = sym (c.loop-f.invariant ∙ rows-end _ _ _ c.loop-f-test.false)

@@ -1,11 +1,8 @@
--- `lists::check_fields` meets its contract.
-use Prim.Native.Nat.{◌-◌, ◌≤◌}
+-- The answer from string f on is the whole answer.
+use Prim.Native.Nat.{◌-◌}
 use mathlib.Core.Path.{◌≡◌}
 use Rattle.format.specs.Refusals.{earliest, field_rows, rows_from}
 use Rattle.lists.proofs.check_fields.Given as goal
 
 abbrev pub invariant-loop-f : goal.invariant-loop-f
-invariant-loop-f l = (l.f ≤ 5) × (earliest (rows_from (field_rows l.b l.k) 0 5) ≡ earliest (rows_from (field_rows l.b l.k) l.f (5 - l.f)))
-
-abbrev pub decreases-loop-f : goal.decreases-loop-f
-decreases-loop-f l = 5 - l.f
+invariant-loop-f l = earliest (rows_from (field_rows l.b l.k) 0 5) ≡ earliest (rows_from (field_rows l.b l.k) l.f (5 - l.f))

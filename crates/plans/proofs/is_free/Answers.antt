@@ -1,23 +1,12 @@
 -- `plans::is_free` meets its contract.
+use mathlib.Core.Logic.{⊎_elim}
 use Rattle.format.specs.Plan.{free}
 use Rattle.plans.proofs.is_free.Goals as goal
 
 pub returns-in-Ordinal : goal.returns-in-Ordinal
 unfolding free
-returns-in-Ordinal c = rw c.in-Ordinal.is
+returns-in-Ordinal c = ⊎_elim (λ e. rw e) (λ e. rw e) c.in-Ordinal.is
 
 pub returns-in-Name : goal.returns-in-Name
 unfolding free
-returns-in-Name c = rw c.in-Name.is
-
-pub returns-in-NameNoprefix : goal.returns-in-NameNoprefix
-unfolding free
-returns-in-NameNoprefix c = rw c.in-NameNoprefix.is
-
-pub returns-in-NameUndecorate : goal.returns-in-NameUndecorate
-unfolding free
-returns-in-NameUndecorate c = rw c.in-NameUndecorate.is
-
-pub returns-in-NameExportas : goal.returns-in-NameExportas
-unfolding free
-returns-in-NameExportas c = rw c.in-NameExportas.is
+returns-in-Name c = ⊎_elim (λ e. rw e) (λ e. ⊎_elim (λ e. rw e) (λ e. rw e) e) c.in-Name.is

@@ -1,35 +1,32 @@
 -- `plans::mangle_free` meets its contract.
 use mathlib.Core.Path.{sym, ap, ◌∙◌}
 use mathlib.Core.Bool.{true}
+use Rattle.std.specs.Prelude.{Some}
 use Rattle.names.specs.Mangler.{demangled_of}
-use Rattle.plans.specs.Shape.{source_of, shaped}
-use Rattle.plans.proofs.Choices.{mangled-prefix, mangled-already, mangled-cannot, exporting-none, exporting-some}
+use Rattle.plans.specs.Shape.{source_of, short_of, short_or_refused}
+use Rattle.plans.proofs.Choices.{mangled-prefix, mangled-already, mangled-cannot, exporting-none, exporting-shown}
 use Rattle.plans.proofs.mangle_free.Goals as goal
 
+pub returns-in_default : goal.returns-in_default
+unfolding short_or_refused
+returns-in_default c =
+    λ e t x. sym (mangled-cannot true _ x t (sym c.get_arm64ec_mangled_function_name.ensures ∙ c.in_default.is))
+
 pub returns-in-Prefix : goal.returns-in-Prefix
-unfolding shaped source_of
+unfolding short_or_refused short_of source_of
 returns-in-Prefix c =
-    λ e t x. sym (mangled-prefix true _ x t (sym c.get_arm64ec_mangled_function_name.ensures ∙ c.in-Prefix.is))
+    λ e t x. sym (mangled-prefix true _ x t (sym c.get_arm64ec_mangled_function_name.ensures ∙ c.in-Some.is ∙ ap Some c.in-Prefix.is))
 
-pub returns-in-Fails-get_arm64ec_demangled_function_name : goal.returns-in-Fails-get_arm64ec_demangled_function_name
-unfolding shaped demangled_of
-returns-in-Fails-get_arm64ec_demangled_function_name c =
+pub returns-in_default-get_arm64ec_demangled_function_name : goal.returns-in_default-get_arm64ec_demangled_function_name
+unfolding short_or_refused demangled_of
+returns-in_default-get_arm64ec_demangled_function_name c =
     λ e t x. sym
-    (mangled-already true _ x t (sym c.get_arm64ec_mangled_function_name.ensures ∙ c.in-Mangled.is) ∙ exporting-none _ (sym c.get_arm64ec_demangled_function_name.ensures.name ∙ ap (demangled_of c.args.public.now) c.in-Fails-get_arm64ec_demangled_function_name.is))
+    (mangled-already true _ x t (sym c.get_arm64ec_mangled_function_name.ensures ∙ c.in-Some.is ∙ ap Some c.in-Mangled.is)
+    ∙ exporting-none _ (sym c.get_arm64ec_demangled_function_name.ensures.name ∙ ap (demangled_of c.args.public.now) c.in_default-get_arm64ec_demangled_function_name.is))
 
-pub returns-in-Dropped : goal.returns-in-Dropped
-unfolding shaped source_of demangled_of
-returns-in-Dropped c =
+pub returns-in-Some-get_arm64ec_demangled_function_name : goal.returns-in-Some-get_arm64ec_demangled_function_name
+unfolding short_or_refused short_of source_of
+returns-in-Some-get_arm64ec_demangled_function_name c =
     λ e t x. sym
-    (mangled-already true _ x t (sym c.get_arm64ec_mangled_function_name.ensures ∙ c.in-Mangled.is) ∙ exporting-some _ _ (sym c.get_arm64ec_demangled_function_name.ensures.name ∙ ap (demangled_of c.args.public.now) c.in-Dropped.is))
-
-pub returns-in-Cut : goal.returns-in-Cut
-unfolding shaped source_of demangled_of
-returns-in-Cut c =
-    λ e t x. sym
-    (mangled-already true _ x t (sym c.get_arm64ec_mangled_function_name.ensures ∙ c.in-Mangled.is) ∙ exporting-some _ _ (sym c.get_arm64ec_demangled_function_name.ensures.name ∙ ap (demangled_of c.args.public.now) c.in-Cut.is))
-
-pub returns-in-Fails : goal.returns-in-Fails
-unfolding shaped
-returns-in-Fails c =
-    λ e t x. sym (mangled-cannot true _ x t (sym c.get_arm64ec_mangled_function_name.ensures ∙ c.in-Fails.is))
+    (mangled-already true _ x t (sym c.get_arm64ec_mangled_function_name.ensures ∙ c.in-Some.is ∙ ap Some c.in-Mangled.is)
+    ∙ exporting-shown _ _ (sym c.get_arm64ec_demangled_function_name.ensures.name ∙ ap (demangled_of c.args.public.now) c.in-Some-get_arm64ec_demangled_function_name.is))

@@ -23,7 +23,7 @@ returns-in_default c =
 pub read_object-requires : goal.read_object-requires
 read_object-requires c =
     let e = ap (λ (h : FileHeader). h.machine) c.read-h.ensures in
-    let k = ordinary-known _ _ (sym c.ordinary_machine.ensures ∙ c.in-Known.is) in
+    let k = ordinary-known _ _ (sym c.ordinary_machine.ensures ∙ c.in-Some.is) in
     record { ordinary = k.1; first = k.0 ∙ e }
 
 pub returns : goal.returns

@@ -1,8 +1,7 @@
 -- `records::auxiliary` meets its contract.
-use mathlib.Core.Path.{refl}
 use Rattle.format.specs.Layouts.{auxiliary}
 use Rattle.records.proofs.auxiliary.Goals as goal
 
 pub returns : goal.returns
 unfolding auxiliary
-returns c = refl
+returns c = rw (c.to_le_bytes.ensures, c.to_le_bytes-2.ensures)

@@ -1,8 +1,8 @@
 -- `records::name_at` meets its contract.
-use native.Mathlib.Nat.{add-zero}
-use Rattle.records.proofs.Fields.{cells-part}
+use mathlib.Core.Path.{sym, ap, ◌∙◌}
+use lib.ListN.{length}
+use Rattle.wire.proofs.Bytes.{length-part}
 use Rattle.records.proofs.name_at.Goals as goal
 
-pub returns : goal.returns
-returns c =
-    rw add-zero at (cells-part 8 c.args.b.now c.args.at c.requires)
+pub copy_from_slice-requires : goal.copy_from_slice-requires
+copy_from_slice-requires c = sym (ap length c.part.ensures ∙ length-part _ _ _ c.requires)

@@ -1,19 +1,19 @@
 -- `search::skip` meets its contract.
-use Prim.Native.Nat.{◌-◌}
-use mathlib.Core.Path.{refl, ap}
+use Prim.Native.Nat.{ℕ, ◌+◌}
+use mathlib.Core.Path.{ap, ◌∙◌}
 use native.Mathlib.Omega.{arith}
 use lib.ListN.{length}
-use Rattle.wire.proofs.Bytes.{length-part-le}
-use Rattle.wire.proofs.Parts.{length-before}
-use Rattle.search.proofs.Searches.{skip-at, skip-inside}
+use Rattle.std.proofs.lemmas.List.{take_rest}
+use Rattle.wire.specs.Bytes.{Bytes, before}
+use Rattle.search.proofs.Searches.{skip-inside}
 use Rattle.search.proofs.skip.Goals as goal
 
 pub overflow_add-result : goal.overflow_add-result
 overflow_add-result c =
-    let text = c.args.text.now in
-    omega (arith, c.index_of.ensures, length-before c.args.c c.part.result.now, ap length c.part.ensures, length-part-le text c.args.i (length text - c.args.i))
+    let e = c.index_of.ensures ∙ ap (λ (x : Bytes). length (before c.args.c x)) (take_rest c.args.text.now c.args.i) in
+    omega (arith, e, skip-inside c.args.c c.args.text.now c.args.i c.requires)
 
 pub returns : goal.returns
 returns c =
-    let e = skip-at c.args.c c.args.text.now _ c.args.i _ _ c.requires refl c.part.ensures c.index_of.ensures in
-    (e, omega (arith, e, skip-inside c.args.c c.args.text.now c.args.i c.requires))
+    let e = c.index_of.ensures ∙ ap (λ (x : Bytes). length (before c.args.c x)) (take_rest c.args.text.now c.args.i) in
+    (ap (λ (k : ℕ). c.args.i + k) e, omega (arith, e, skip-inside c.args.c c.args.text.now c.args.i c.requires))

@@ -1,19 +1,23 @@
--- `wire::find` meets its contract: where there is room, the part of its length is compared.
-use mathlib.Core.Path.{refl, sym, ◌∙◌}
+-- `wire::find` meets its contract: `b` stands at the place exactly where what stands from there on starts with it.
 use native.Mathlib.Omega.{arith}
-use Rattle.wire.proofs.Writes.{found-same, found-differ, found-short}
+use mathlib.Core.Bool.{false≢true}
+use mathlib.Core.Path.{sym, ◌∙◌}
+use Rattle.wire.proofs.Writes.{starts-has, has-starts, found-here, found-nowhere}
 use Rattle.wire.proofs.find.Goals as goal
+use Rattle.wire.proofs.find.Goals.{in_default-via-in-Some+else-starts_with, in_default-via-in_default}
 
-pub returns-then-s-at : goal.returns-then-s-at
-returns-then-s-at c = found-short _ _ _ _ refl (omega arith)
+pub returns-in-Some : goal.returns-in-Some
+returns-in-Some c =
+    let e = c.in-Some.ensures.lookup in
+    found-here (starts-has _ _ _ e.0.0 e.0.2 c.starts_with.ensures.value c.if-starts_with.true)
 
-pub returns-then-s-at-2 : goal.returns-then-s-at-2
-returns-then-s-at-2 c = found-short _ _ _ _ refl (omega arith)
-
-pub returns-then-same : goal.returns-then-same
-returns-then-same c =
-    found-same _ _ _ _ refl (omega arith) c.part.ensures (sym c.same.ensures ∙ c.if-same.true)
-
-pub returns : goal.returns
-returns c =
-    found-differ _ _ _ _ refl c.part.ensures (sym c.same.ensures ∙ c.if-same.false)
+pub returns-in_default : goal.returns-in_default
+returns-in_default c =
+    elim c.in_default.branch [
+      | in_default-via-in-Some+else-starts_with w ↦
+          let e = w.in-Some.ensures.lookup in
+          found-nowhere (λ h. false≢true (sym w.if-starts_with.false ∙ has-starts _ _ _ e.0.2 w.starts_with.ensures.value h))
+      | in_default-via-in_default w ↦
+          let e = w.in_default.ensures.lookup in
+          found-nowhere (λ h. false≢true (e.1 (h.inside, omega arith)))
+    ]

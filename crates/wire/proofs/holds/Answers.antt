@@ -1,11 +1,7 @@
--- `wire::holds` meets its contract: a byte that stands in a slice is found before its end.
-use Prim.Native.Nat.{ℕ}
-use mathlib.Core.Path.{sym, ap, ◌∙◌}
-use lib.Dec.{ltb}
-use lib.ListN.{length}
-use Rattle.wire.proofs.Parts.{holds-before}
+-- `wire::holds` meets its contract.
+use mathlib.Core.Path.{◌∙◌}
+use Rattle.wire.proofs.Parts.{holds-any}
 use Rattle.wire.proofs.holds.Goals as goal
 
 pub returns : goal.returns
-returns c =
-    ap (λ (k : ℕ). ltb k (length c.args.s.now)) c.index_of.ensures ∙ sym (holds-before _ _)
+returns c = c.contains.ensures.value ∙ holds-any _ _

@@ -1,33 +1,28 @@
-use borrow.Author.Rules.{rules}
-use mathlib.Core.Path.{refl, sym, ◌∙◌}
+use Prim.Native.Nat.{◌-◌}
 use native.Mathlib.Omega.{arith}
+use lib.ListN.{length}
+use mathlib.Core.Path.{refl}
 use Rattle.wire.specs.Bytes.{holds}
-use Rattle.wire.proofs.Parts.{before-past, before-none, holds-part, holds-take-le}
+use Rattle.wire.proofs.Parts.{holds-take-le, marks-first, marks-past, marks-end}
 use Rattle.wire.proofs.index_by.Goals as goal
 
-pub loop-i-init : goal.loop-i-init
+pub loop-at-init : goal.loop-at-init
 unfolding holds
-loop-i-init c = (search rules, refl)
+loop-at-init g c = (omega arith, refl)
 
-pub returns-then-holds_at : goal.returns-then-holds_at
-returns-then-holds_at c =
-    c.index_in.ensures ∙ sym (before-past _ _ _ (omega arith) c.loop-i.invariant.1)
+pub returns-then-bits-ne0 : goal.returns-then-bits-ne0
+returns-then-bits-ne0 g c = marks-first c.args.c c.args.s.now c.loop-at.at g.row.N (omega arith) (omega arith) c.loop-at.invariant.1 c.marks_at-bits.ensures c.if-bits-ne0.true
 
-pub loop-i-preserved : goal.loop-i-preserved
-loop-i-preserved c =
-    (search rules, holds-part _ c.args.s.now _ _ c.loop-i.invariant.1 (sym c.holds_at.ensures ∙ c.if-holds_at.false))
+pub loop-at-preserved : goal.loop-at-preserved
+loop-at-preserved g c = (omega arith, marks-past c.args.c c.args.s.now c.loop-at.at g.row.N _ (omega arith) c.loop-at.invariant.1 c.marks_at-bits.ensures c.if-bits-ne0.false)
 
-pub returns-then-holds_at-2 : goal.returns-then-holds_at-2
-returns-then-holds_at-2 c =
-    c.index_in-then-holds_at-2.ensures ∙ sym
-    (before-past _ _ _ (omega arith) (holds-take-le _ c.args.s.now c.loop-i.i _ c.loop-i-test.false c.loop-i.invariant.1))
+-- the last part
+pub returns-then-bits-eq0 : goal.returns-then-bits-eq0
+returns-then-bits-eq0 g c =
+    let s = c.args.s.now in
+    marks-end c.args.c s (length s - g.row.N) g.row.N (omega arith) (holds-take-le _ s c.loop-at.at _ c.loop-at-test.false c.loop-at.invariant.1) c.marks_at-bits-2.ensures c.if-bits-eq0.true
 
 pub returns : goal.returns
-returns c =
-    sym (before-none _ c.args.s.now c.loop-i.i _ _ c.loop-i-test.false (omega arith) c.loop-i.invariant.1 (sym c.holds_at-2.ensures ∙ c.if-holds_at-2.false))
-
-pub index_in-requires : goal.index_in-requires
-index_in-requires c = record { n_in_bounds = search rules; n_value = sym c.holds_at.ensures ∙ c.if-holds_at.true }
-
-pub index_in-requires-then-holds_at-2 : goal.index_in-requires-then-holds_at-2
-index_in-requires-then-holds_at-2 c = record { n_in_bounds = search rules; n_value = sym c.holds_at-2.ensures ∙ c.if-holds_at-2.true }
+returns g c =
+    let s = c.args.s.now in
+    marks-first c.args.c s (length s - g.row.N) g.row.N (omega arith) (omega arith) (holds-take-le _ s c.loop-at.at _ c.loop-at-test.false c.loop-at.invariant.1) c.marks_at-bits-2.ensures c.if-bits-eq0.false

@@ -1,23 +1,17 @@
-use borrow.Author.Rules.{rules}
-use Prim.Native.Nat.{ℕ, ◌+◌, ◌*◌}
-use mathlib.Core.Path.{ap, ◌∙◌}
+-- `wire::marks_at` meets its contract.
+use lib.Dec.{eqb}
+use lib.Lanes.{chunk}
+use mathlib.Core.Path.{◌∙◌}
+use mir.Syntax.{w8}
 use native.Mathlib.Omega.{arith}
-use Rattle.wire.proofs.Parts.{marks-below, marks-none, marks-all, marks-step}
+use Rattle.std.proofs.lemmas.Simd.{bitmask_splat, length-chunk}
+use Rattle.wire.specs.Bytes.{part}
+use Rattle.wire.proofs.Parts.{marks-lanes}
 use Rattle.wire.proofs.marks_at.Goals as goal
 
-pub loop-k-init : goal.loop-k-init
-loop-k-init c = (search rules, marks-none _ _ _ _)
-
-pub overflow_mul-bits : goal.overflow_mul-bits
-overflow_mul-bits c = omega (arith, marks-below _ _ _ _ (omega arith) c.loop-k.invariant.1)
-
-pub overflow_add-bits : goal.overflow_add-bits
-overflow_add-bits c =
-    omega (arith, marks-below _ _ _ _ (omega arith) c.loop-k.invariant.1)
-
-pub loop-k-preserved : goal.loop-k-preserved
-loop-k-preserved c =
-    (search rules, ap (λ (b : ℕ). 2 * c.loop-k.bits + b) c.mark.ensures.0 ∙ marks-step c.args.c c.args.s.now c.args.at c.args.n c.loop-k.k (omega arith) (omega arith) (omega arith) c.loop-k.invariant.1)
-
 pub returns : goal.returns
-returns c = marks-all _ _ _ _ c.loop-k.k (omega arith) c.loop-k.invariant.1
+unfolding part
+returns g c =
+    let n = g.row.N in
+    let s = c.args.s.now in
+    bitmask_splat w8 eqb (chunk c.args.at n s) n c.args.c (length-chunk c.args.at n s (omega arith)) (omega arith) ∙ marks-lanes _ _

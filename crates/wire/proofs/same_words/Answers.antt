@@ -1,3 +1,4 @@
+use Prim.Native.Nat.{◌+◌}
 use borrow.Author.Rules.{rules}
 use mathlib.Core.Path.{refl, sym, ◌∙◌}
 use native.Mathlib.Omega.{arith}
@@ -20,3 +21,10 @@ loop-i-preserved c =
 
 pub returns : goal.returns
 returns c = sym (same-all _ _ c.loop-i.i (omega arith) (omega arith) c.loop-i.invariant.1)
+
+pub returns-else-u32_at : goal.returns-else-u32_at
+returns-else-u32_at c =
+    let o = octets _ c.type_inv.a in
+    let p = octets _ c.type_inv.b in
+    let e = sym c.u32_at.ensures ∙ c.if-u32_at.false ∙ c.u32_at-in-loop-i.ensures in
+    sym (same-all _ _ (c.loop-i.i + 4) (omega arith) (omega arith) (same-word _ _ c.loop-i.i o p (omega arith) (omega arith) e c.loop-i.invariant.1))

@@ -1,26 +1,18 @@
-use mathlib.Core.Path.{◌∙◌}
+use mathlib.Core.Path.{sym, ◌∙◌}
 use mathlib.Core.Bool.{false}
-use borrow.Author.Rules.{rules}
-use native.Mathlib.Omega.{arith}
 use Rattle.coff.proofs.Table.{row, table, look-here, look-later, look-end, look-table}
 use Rattle.coff.proofs.machines.find_machine.Goals as goal
 
-pub loop-i-init : goal.loop-i-init
-loop-i-init c = (search rules, look-table c.args.number)
+pub loop-m-init : goal.loop-m-init
+loop-m-init c = look-table c.args.number
 
-pub returns-then-m-number : goal.returns-then-m-number
-returns-then-m-number c =
-    look-here _ table (row 0 0 false) c.loop-i.i (search rules) c.if-m-number.true ∙ c.loop-i.invariant.1
+pub returns-then-from-number : goal.returns-then-from-number
+returns-then-from-number c =
+    look-here _ table (row 0 0 false) c.loop-m.m-index c.loop-m-test.true (sym c.from.ensures ∙ c.if-from-number.true) ∙ c.loop-m.invariant
 
-pub loop-i-preserved : goal.loop-i-preserved
-loop-i-preserved c =
-    (omega arith, look-later _ table (row 0 0 false) c.loop-i.i (search rules) c.if-m-number.false ∙ c.loop-i.invariant.1)
+pub loop-m-preserved : goal.loop-m-preserved
+loop-m-preserved c =
+    look-later _ table (row 0 0 false) c.loop-m.m-index c.loop-m-test.true (λ e. c.if-from-number.false (c.from.ensures ∙ e)) ∙ c.loop-m.invariant
 
 pub returns : goal.returns
-returns c = look-end _ table (row 0 0 false) c.loop-i.i (search rules) ∙ c.loop-i.invariant.1
-
-pub overflow_add-i : goal.overflow_add-i
-overflow_add-i c = omega arith
-
-pub loop-i-smaller : goal.loop-i-smaller
-loop-i-smaller c = omega arith
+returns c = look-end _ table (row 0 0 false) c.loop-m.m-index c.loop-m-test.false ∙ c.loop-m.invariant

@@ -1,5 +1,5 @@
 -- `crepedum::looking::put_looked` meets its contract.
-use Rattle.crepedum.proofs.Finding.{filled-not-found, filled-nowhere, filled-ordinal, filled-name, filled-refusal, short-name}
+use Rattle.crepedum.proofs.Finding.{filled-not-found, filled-nowhere, filled-ordinal, filled-name, short-name}
 use Rattle.crepedum.proofs.looking.put_looked.Goals as goal
 
 pub returns-in-NotFound : goal.returns-in-NotFound
@@ -18,6 +18,3 @@ put_name-requires c = record { looked_count_in_bounds = c.requires.looked_count_
 pub returns-in-Name : goal.returns-in-Name
 returns-in-Name c =
     filled-name _ c.args.fields.now c.in-Name.is c.put_name.ensures
-
-pub returns-in-Refused : goal.returns-in-Refused
-returns-in-Refused c = filled-refusal _ c.args.fields.now c.in-Refused.is

@@ -1,5 +1,5 @@
 -- `crepedum::reading::put_read` meets its contract.
-use Rattle.crepedum.proofs.Fields.{filled-descriptor, filled-null, filled-thunk, filled-short, filled-weak, filled-refused, short-absent, shorts-as}
+use Rattle.crepedum.proofs.Fields.{filled-descriptor, filled-null, filled-thunk, filled-short, filled-weak, short-absent, shorts-as}
 use Rattle.crepedum.proofs.reading.put_read.Goals as goal
 
 pub put_values-requires : goal.put_values-requires
@@ -46,7 +46,3 @@ put_values-requires-in-WeakExternal c =
 pub returns-in-WeakExternal : goal.returns-in-WeakExternal
 returns-in-WeakExternal c =
     filled-weak c.args.read c.args.fields.now _ c.in-WeakExternal.is c.put_values-in-WeakExternal.ensures
-
-pub returns-in-Refused : goal.returns-in-Refused
-returns-in-Refused c =
-    filled-refused c.args.read c.args.fields.now c.in-Refused.is

@@ -1,14 +1,12 @@
-use Rattle.std.proofs.Common.{sym, refl, ◌∙◌, arith, rules}
+use Rattle.std.proofs.Common.{sym, refl, ◌∙◌, arith}
 use Rattle.keys.proofs.Hashing.{hash-step, hash-end}
 use Rattle.keys.proofs.hash.hash.Goals as goal
 
-pub loop-i-init : goal.loop-i-init
-loop-i-init c = (search rules, refl)
+pub loop-c-init : goal.loop-c-init
+loop-c-init c = refl
 
-pub loop-i-preserved : goal.loop-i-preserved
-loop-i-preserved c =
-    (omega arith, hash-step _ _ c.loop-i.i c.loop-i-test.true c.step-h.ensures ∙ c.loop-i.invariant.1)
+pub loop-c-preserved : goal.loop-c-preserved
+loop-c-preserved c = hash-step _ _ c.loop-c.c-index c.loop-c-test.true c.step-h.ensures ∙ c.loop-c.invariant
 
 pub returns : goal.returns
-returns c =
-    sym (hash-end _ _ c.loop-i.i (omega (arith, c.loop-i-test.false))) ∙ c.loop-i.invariant.1
+returns c = sym (hash-end _ _ c.loop-c.c-index (omega (arith, c.loop-c-test.false))) ∙ c.loop-c.invariant

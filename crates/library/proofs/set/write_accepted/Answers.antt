@@ -8,7 +8,7 @@ use Rattle.library.proofs.set.write_accepted.Goals as goal
 pub returns-then-slots-lt-SLOTS : goal.returns-then-slots-lt-SLOTS
 returns-then-slots-lt-SLOTS c =
     let (answer, left) = written-19 _ _ _ _ c.requires.b_value c.if-slots-lt-SLOTS.true in
-    writes-by _ _ answer left (λ _. refl)
+    writes-by _ _ (rw c.at.ensures answer) left (λ _. refl)
 
 pub has_wanted-requires : goal.has_wanted-requires
 has_wanted-requires c =

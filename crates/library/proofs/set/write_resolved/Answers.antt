@@ -24,7 +24,7 @@ returns-then-room-total c =
     let fine = c.requires.b_value in
     let (answer, left) = written-15 _ _ 8192 _ fine (omega arith)
     (less c.if-room-total.true (c.total_of-total.ensures ∙ measured-total _ _ (octets _ c.type_inv.b) fine c.measure-size.ensures.1))
-    in (answer, after-nothing _ _ c.measure-size.ensures.0 ∙ left)
+    in (rw c.at.ensures answer, after-nothing _ _ c.measure-size.ensures.0 ∙ left)
 
 pub draw_all-requires : goal.draw_all-requires
 draw_all-requires c = record { room = room-at c.pen_at-pen.ensures.0 (c.pen_at-pen.ensures.1 ∙ c.entry_of-first_at.ensures) (set-room _ _ (octets _ c.type_inv.b) c.requires.b_value c.measure-size.ensures.1); b_value = list-accepted _ _ c.requires.b_value; machine = c.requires.machine; resolved_all = c.requires.resolved_all }

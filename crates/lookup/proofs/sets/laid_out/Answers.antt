@@ -8,38 +8,10 @@ use Rattle.lookup.proofs.sets.laid_out.Goals as goal
 pub returns-then-set-lt-SET_HEADER_SIZE : goal.returns-then-set-lt-SET_HEADER_SIZE
 returns-then-set-lt-SET_HEADER_SIZE c = no-header _ c.if-set-lt-SET_HEADER_SIZE.true
 
-pub field-count-requires : goal.field-count-requires
-field-count-requires c = omega (arith, c.if-set-lt-SET_HEADER_SIZE.false)
-
-pub field-firsts-requires : goal.field-firsts-requires
-field-firsts-requires c = omega (arith, c.if-set-lt-SET_HEADER_SIZE.false)
-
-pub field-natives-requires : goal.field-natives-requires
-field-natives-requires c =
-    omega (arith, c.if-set-lt-SET_HEADER_SIZE.false)
-
-pub overflow_add-firsts : goal.overflow_add-firsts
-overflow_add-firsts c = omega (arith, c.field-firsts.ensures.1)
-
-pub overflow_add-firsts-2 : goal.overflow_add-firsts-2
-overflow_add-firsts-2 c = omega (arith, c.field-firsts.ensures.1, c.field-natives.ensures.1)
-
 pub returns-then-count-firsts : goal.returns-then-count-firsts
 returns-then-count-firsts c =
     no-count _ c.if-set-lt-SET_HEADER_SIZE.false
     (λ e. c.if-count-firsts.true (omega (arith, e, c.field-count.ensures.0, c.field-firsts.ensures.0, c.field-natives.ensures.0)))
-
-pub field-at-requires : goal.field-at-requires
-field-at-requires c =
-    omega (arith, c.if-set-lt-SET_HEADER_SIZE.false)
-
-pub overflow_mul-count : goal.overflow_mul-count
-overflow_mul-count c =
-    omega (arith, c.field-count.ensures.1)
-
-pub overflow_add-count : goal.overflow_add-count
-overflow_add-count c =
-    omega (arith, c.field-count.ensures.1)
 
 pub returns-then-at-count : goal.returns-then-at-count
 returns-then-at-count c =
@@ -51,9 +23,6 @@ returns-then-set-at c =
     no-directory _ c.if-set-lt-SET_HEADER_SIZE.false (omega (arith, c.if-count-firsts.false, c.field-count.ensures.0, c.field-firsts.ensures.0, c.field-natives.ensures.0))
     (omega (arith, c.if-at-count.false, c.field-count.ensures.0, c.field-at.ensures.0))
     (omega (arith, c.if-set-at.true, c.field-at.ensures.0))
-
-pub back_to_back-requires : goal.back_to_back-requires
-back_to_back-requires c = omega (arith, c.if-set-at.false, c.if-at-count.false)
 
 pub returns : goal.returns
 returns c =

@@ -18,21 +18,22 @@ pub returns-then-not-starts_with : goal.returns-then-not-starts_with
 returns-then-not-starts_with c =
     demangles-plain _ (sym c.starts_with.ensures ∙ c.if-starts_with.false) (sym c.starts_with-2.ensures ∙ c.if-not-starts_with.true)
 
-pub returns-in_default : goal.returns-in_default
-returns-in_default c =
-    demangles-untagged _ (sym c.starts_with.ensures ∙ c.if-starts_with.false) (sym c.starts_with-2.ensures ∙ c.if-not-starts_with.false)
-    (place-nowhere _ (sym c.find_tag.ensures ∙ c.in_default.is))
+pub returns-in_err-at : goal.returns-in_err-at
+returns-in_err-at c =
+    rw c.from_residual.ensures
+    (demangles-untagged _ (sym c.starts_with.ensures ∙ c.if-starts_with.false) (sym c.starts_with-2.ensures ∙ c.if-not-starts_with.false)
+    (place-nowhere _ (sym c.find_tag.ensures ∙ c.in_err-at.was)))
 
 pub overflow_add-at : goal.overflow_add-at
 overflow_add-at c =
-    omega (arith, find-within _ _ _ (place-at _ _ (sym c.find_tag.ensures ∙ c.in-At.is)))
+    omega (arith, find-within _ _ _ (place-at _ _ (sym c.find_tag.ensures ∙ c.in_ok-at.was)))
 
 pub returns-then-at-name : goal.returns-then-at-name
 returns-then-at-name c =
     demangles-last _ (sym c.starts_with.ensures ∙ c.if-starts_with.false) (sym c.starts_with-2.ensures ∙ c.if-not-starts_with.false)
-    (place-at _ _ (sym c.find_tag.ensures ∙ c.in-At.is)) c.if-at-name.true
+    (place-at _ _ (sym c.find_tag.ensures ∙ c.in_ok-at.was)) c.if-at-name.true
 
 pub returns : goal.returns
 returns c =
     demangles-cut _ (sym c.starts_with.ensures ∙ c.if-starts_with.false) (sym c.starts_with-2.ensures ∙ c.if-not-starts_with.false)
-    (place-at _ _ (sym c.find_tag.ensures ∙ c.in-At.is)) c.if-at-name.false
+    (place-at _ _ (sym c.find_tag.ensures ∙ c.in_ok-at.was)) c.if-at-name.false

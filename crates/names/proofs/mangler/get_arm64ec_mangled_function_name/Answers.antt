@@ -12,12 +12,13 @@ pub returns-then-not-starts_with : goal.returns-then-not-starts_with
 returns-then-not-starts_with c =
     sym (mangling-by _ (sym c.starts_with.ensures ∙ c.if-not-starts_with.true) (sym c.starts_with-then-not-starts_with.ensures ∙ c.if-starts_with.false) refl)
 
-pub returns-in-At : goal.returns-in-At
-returns-in-At c =
+pub returns : goal.returns
+returns c =
     sym (mangling-tagged _ (sym c.starts_with.ensures ∙ c.if-not-starts_with.false)
-    (place-at _ _ (sym c.find_tag.ensures ∙ c.in-At.is)))
+    (place-at _ _ (sym c.find_tag.ensures ∙ c.in_ok-find_tag.was)))
 
-pub returns-in-Nowhere : goal.returns-in-Nowhere
-returns-in-Nowhere c =
-    sym (mangling-untagged _ (sym c.starts_with.ensures ∙ c.if-not-starts_with.false)
-    (place-nowhere _ (sym c.find_tag.ensures ∙ c.in-Nowhere.is)))
+pub returns-in_err-find_tag : goal.returns-in_err-find_tag
+returns-in_err-find_tag c =
+    c.from_residual.ensures
+    ∙ sym (mangling-untagged _ (sym c.starts_with.ensures ∙ c.if-not-starts_with.false)
+    (place-nowhere _ (sym c.find_tag.ensures ∙ c.in_err-find_tag.was)))

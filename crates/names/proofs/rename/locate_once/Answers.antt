@@ -6,15 +6,16 @@ use Rattle.search.proofs.Searches.{find-rest, find-rest-none}
 use Rattle.names.proofs.Renamings.{located-at, located-nowhere}
 use Rattle.names.proofs.rename.locate_once.Goals as goal
 
+pub returns-in_err-at : goal.returns-in_err-at
+returns-in_err-at c =
+    rw c.from_residual.ensures
+    (located-nowhere _ c.args.from.now _ c.args.skip (find-rest-none c.args.from.now c.args.s.now c.args.skip c.find.ensures c.in_err-at.was))
+
 pub overflow_add-result : goal.overflow_add-result
 overflow_add-result c =
-    let e = find-rest c.args.from.now c.args.s.now c.args.skip c.find.ensures c.in-At.is in
+    let e = find-rest c.args.from.now c.args.s.now c.args.skip c.find.ensures c.in_ok-at.was in
     omega (arith, find-within _ _ _ e, length-drop c.args.skip c.args.from.now)
 
-pub returns-in-At : goal.returns-in-At
-returns-in-At c =
-    located-at _ _ _ _ _ c.requires.1 (find-rest c.args.from.now c.args.s.now c.args.skip c.find.ensures c.in-At.is)
-
-pub returns-in-Nowhere : goal.returns-in-Nowhere
-returns-in-Nowhere c =
-    located-nowhere _ c.args.from.now _ c.args.skip (find-rest-none c.args.from.now c.args.s.now c.args.skip c.find.ensures c.in-Nowhere.is)
+pub returns : goal.returns
+returns c =
+    located-at _ _ _ _ _ c.requires.1 (find-rest c.args.from.now c.args.s.now c.args.skip c.find.ensures c.in_ok-at.was)

@@ -2,14 +2,11 @@
 use Rattle.names.proofs.Renamings.{located-fails, located-room, renamed-some, renamed-none}
 use Rattle.names.proofs.rename.replace.Goals as goal
 
-pub spliced-name-requires : goal.spliced-name-requires
-spliced-name-requires c =
-    located-room _ c.args.from.now _ c.locate.ensures c.in-Of.is c.requires.0 c.requires.1 c.requires.2
+pub returns-in_err-p : goal.returns-in_err-p
+returns-in_err-p c = rw c.from_residual.ensures (renamed-none (located-fails (rw c.in_err-p.was at c.locate.ensures)))
 
-pub returns-in-Of : goal.returns-in-Of
-returns-in-Of c =
-    renamed-some _ _ _ c.locate.ensures c.in-Of.is c.requires.0 c.requires.1 c.requires.2 c.spliced-name.ensures
+pub spliced-requires : goal.spliced-requires
+spliced-requires c = located-room _ c.args.from.now _ (rw c.in_ok-p.was at c.locate.ensures) c.requires.0 c.requires.1 c.requires.2
 
-pub returns-in-Fails : goal.returns-in-Fails
-returns-in-Fails c =
-    renamed-none (located-fails c.locate.ensures c.in-Fails.is) c.fresh-name.ensures.0
+pub returns : goal.returns
+returns c = renamed-some _ _ _ (rw c.in_ok-p.was at c.locate.ensures) c.requires.0 c.requires.1 c.requires.2 c.spliced.ensures

@@ -11,4 +11,4 @@ pub returns-then-name-gt-LONGEST : goal.returns-then-name-gt-LONGEST
 returns-then-name-gt-LONGEST c = refused
 
 pub returns : goal.returns
-returns c = λ e. (c.if-verdict-ne-PREFIX.false, sym c.mangled-m.ensures.name ∙ same-eq _ _ (sym c.equals.ensures ∙ e))
+returns c = λ e. (c.if-verdict-ne-PREFIX.false, sym c.mangled.ensures.name ∙ same-eq _ _ (sym c.equals.ensures ∙ e))

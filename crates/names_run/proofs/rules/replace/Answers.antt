@@ -1,6 +1,7 @@
 -- `names_run::rules::replace` meets its contract.
-use mathlib.Core.Path.{sym, ◌∙◌}
-use Rattle.wire.proofs.Bytes.{not-true, not-false, same-eq}
+use mathlib.Core.Path.{refl, sym, ◌∙◌}
+use Rattle.wire.proofs.Bytes.{same-eq}
+use Rattle.names.proofs.Renamings.{name-some, name-none}
 use Rattle.names_run.proofs.Verdicts.{refused, told-made, told-none}
 use Rattle.names_run.proofs.rules.replace.Goals as goal
 
@@ -13,13 +14,13 @@ returns-then-s-gt-LONGEST c = refused
 pub returns-then-to-gt-LONGEST : goal.returns-then-to-gt-LONGEST
 returns-then-to-gt-LONGEST c = refused
 
-pub returns-then-not-r : goal.returns-then-not-r
-returns-then-not-r c = λ e. c.replace-r.ensures.fails (not-true _ c.if-not-r.true) ∙ told-none _ _ e
+pub returns-in_default : goal.returns-in_default
+returns-in_default c = λ e. name-none c.replace.ensures c.in_default.is ∙ told-none _ _ e
 
 pub returns-then-verdict-ne-MADE : goal.returns-then-verdict-ne-MADE
 returns-then-verdict-ne-MADE c = refused
 
 pub returns : goal.returns
 returns c = λ e.
-    c.replace-r.ensures.given (not-false _ c.if-not-r.false)
+    name-some c.replace.ensures c.in-Some.is refl
     ∙ told-made _ _ _ c.if-verdict-ne-MADE.false (same-eq _ _ (sym c.equals.ensures ∙ e))

@@ -1,9 +1,8 @@
 -- `plans::check::check_name` meets its contract.
 use mathlib.Core.Path.{sym, ap, ◌∙◌}
 use mathlib.Core.Option.{some}
-use native.Mathlib.Omega.{arith}
-use lib.ListN.{length}
-use Rattle.plans.proofs.Publics.{public-base, public-renamed, string-length, base-length, names-private, names-by, names-11}
+use Rattle.names.proofs.Renamings.{name-some, name-none}
+use Rattle.plans.proofs.Publics.{public-base, names-private, names-by, names-11}
 use Rattle.plans.proofs.check.check_name.Goals as goal
 
 pub returns-then-is_private : goal.returns-then-is_private
@@ -14,19 +13,14 @@ returns-then-absent c =
     c.check_named.ensures ∙ names-by _ _ _ _ _ (sym c.is_private.ensures ∙ c.if-is_private.false)
     (public-base _ _ (sym c.absent.ensures ∙ c.if-absent.true) ∙ ap some (sym c.base.ensures))
 
-pub replace-r-requires : goal.replace-r-requires
-replace-r-requires c = (
-  omega (arith, ap length c.base-2.ensures, base-length _ _ c.requires),
-  omega (arith, ap length c.string.ensures, string-length _ _ 0 c.requires (omega arith), c.requires.named),
-  omega (arith, ap length c.string-2.ensures, string-length _ _ 1 c.requires (omega arith), c.requires.few 1 (omega arith)),
-)
+pub renamed-requires : goal.renamed-requires
+renamed-requires c = record { held = c.requires; has_ext_name = sym c.absent.ensures ∙ c.if-absent.false }
 
-pub returns-then-not-found : goal.returns-then-not-found
-returns-then-not-found c =
-    names-11 _ _ _ _ (sym c.is_private.ensures ∙ c.if-is_private.false)
-    (public-renamed _ _ _ _ _ _ (sym c.absent.ensures ∙ c.if-absent.false) c.base-2.ensures c.string.ensures c.string-2.ensures (c.replace-r.ensures.fails (c.if-not-found.true)))
+pub returns-in_default : goal.returns-in_default
+returns-in_default c =
+    rw c.at.ensures (names-11 _ _ _ _ (sym c.is_private.ensures ∙ c.if-is_private.false) (name-none c.renamed.ensures c.in_default.is))
 
 pub returns : goal.returns
 returns c =
     c.check_named-2.ensures ∙ names-by _ _ _ _ _ (sym c.is_private.ensures ∙ c.if-is_private.false)
-    (public-renamed _ _ _ _ _ _ (sym c.absent.ensures ∙ c.if-absent.false) c.base-2.ensures c.string.ensures c.string-2.ensures (c.replace-r.ensures.given (c.if-not-found.false)))
+    (name-some c.renamed.ensures c.in-Some.is c.as_slice.ensures.bytes)

@@ -1,27 +1,23 @@
-use borrow.Author.Rules.{rules}
 use mathlib.Core.Path.{refl, sym, ◌∙◌}
 use native.Mathlib.Omega.{arith}
-use Rattle.format.proofs.Rows.{rows-more, rows-stop, rows-end}
+use Rattle.format.proofs.Rows.{passed-on, rows-more, rows-stop, rows-end}
 use Rattle.lists.proofs.Records.{held}
 use Rattle.plans.proofs.check.check_names.Goals as goal
 
 pub loop-k-init : goal.loop-k-init
-loop-k-init c = (search rules, refl)
+loop-k-init c = refl
 
-pub check_name-checked-requires : goal.check_name-checked-requires
-check_name-checked-requires c =
-    held _ _ c.requires.b_value (omega arith)
+pub check_name-requires : goal.check_name-requires
+check_name-requires c = held _ _ c.requires.b_value (omega arith)
 
-pub returns-in-Refused : goal.returns-in-Refused
-returns-in-Refused c =
-    sym (c.loop-k.invariant.1 ∙ rows-stop _ _ _ _ _ c.loop-k-test.true (sym c.check_name-checked.ensures ∙ c.in-Refused.is))
+pub returns-in_err-check_name : goal.returns-in_err-check_name
+returns-in_err-check_name c =
+    passed-on _ c.from_residual.ensures.1
+    ∙ sym (c.loop-k.invariant ∙ rows-stop _ _ _ _ c.loop-k-test.true (sym c.check_name.ensures ∙ c.in_err-check_name.was))
 
 pub loop-k-preserved : goal.loop-k-preserved
-loop-k-preserved c = (
-  search rules,
-  c.loop-k.invariant.1
-      ∙ rows-more _ _ _ c.loop-k-test.true (sym c.check_name-checked.ensures ∙ c.in_default.is),
-)
+loop-k-preserved c =
+    c.loop-k.invariant ∙ rows-more _ _ _ c.loop-k-test.true (sym c.check_name.ensures ∙ c.in_ok-check_name.was)
 
 pub returns : goal.returns
-returns c = sym (c.loop-k.invariant.1 ∙ rows-end _ _ _ c.loop-k-test.false)
+returns c = sym (c.loop-k.invariant ∙ rows-end _ _ _ c.loop-k-test.false)

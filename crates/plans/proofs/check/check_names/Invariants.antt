@@ -1,11 +1,8 @@
--- `plans::check::check_names` meets its contract. The loop's invariant: the answer from record k on is the whole answer.
-use Prim.Native.Nat.{◌-◌, ◌≤◌}
+-- The answer from record k on is the whole answer.
+use Prim.Native.Nat.{◌-◌}
 use mathlib.Core.Path.{◌≡◌}
 use Rattle.format.specs.Refusals.{earliest, name_rows, rows_from}
 use Rattle.plans.proofs.check.check_names.Given as goal
 
 abbrev pub invariant-loop-k : goal.invariant-loop-k
-invariant-loop-k l = (l.k ≤ l.to) × (earliest (rows_from (name_rows l.machine l.mingw l.b) l.from (l.to - l.from)) ≡ earliest (rows_from (name_rows l.machine l.mingw l.b) l.k (l.to - l.k)))
-
-abbrev pub decreases-loop-k : goal.decreases-loop-k
-decreases-loop-k l = l.to - l.k
+invariant-loop-k l = earliest (rows_from (name_rows l.machine l.mingw l.b) l.from (l.to - l.from)) ≡ earliest (rows_from (name_rows l.machine l.mingw l.b) l.k (l.to - l.k))

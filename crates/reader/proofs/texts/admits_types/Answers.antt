@@ -11,13 +11,13 @@ returns-in_default c =
 
 pub returns-then-machine-eq-IMAGE_FILE_MACHINE_ARM64X : goal.returns-then-machine-eq-IMAGE_FILE_MACHINE_ARM64X
 returns-then-machine-eq-IMAGE_FILE_MACHINE_ARM64X c =
-    types-arm64x _ _ _ (known-number _ _ (sym c.find_machine.ensures ∙ c.in-Known.is)) c.if-machine-eq-IMAGE_FILE_MACHINE_ARM64X.true
+    types-arm64x _ _ _ (known-number _ _ (sym c.find_machine.ensures ∙ c.in-Some.is)) c.if-machine-eq-IMAGE_FILE_MACHINE_ARM64X.true
 
 pub returns-then-kind-gt-MAX_KIND : goal.returns-then-kind-gt-MAX_KIND
 returns-then-kind-gt-MAX_KIND c =
-    types-kind _ _ _ (known-number _ _ (sym c.find_machine.ensures ∙ c.in-Known.is)) c.if-machine-eq-IMAGE_FILE_MACHINE_ARM64X.false
+    types-kind _ _ _ (known-number _ _ (sym c.find_machine.ensures ∙ c.in-Some.is)) c.if-machine-eq-IMAGE_FILE_MACHINE_ARM64X.false
     (omega (arith, c.if-kind-gt-MAX_KIND.true))
 
 pub returns : goal.returns
 returns c =
-    types-by _ _ _ (known-number _ _ (sym c.find_machine.ensures ∙ c.in-Known.is)) c.if-machine-eq-IMAGE_FILE_MACHINE_ARM64X.false (omega arith)
+    types-by _ _ _ (known-number _ _ (sym c.find_machine.ensures ∙ c.in-Some.is)) c.if-machine-eq-IMAGE_FILE_MACHINE_ARM64X.false (omega arith)

@@ -8,7 +8,7 @@ use lib.ListN.{length, get_or}
 use Rattle.wire.specs.Bytes.{Bytes}
 use Rattle.format.specs.Exports.{field_at, absent_at, bytes_at, both_counts}
 use Rattle.format.specs.Refusals.{check_list}
-use Rattle.format.specs.declared.Checked.TheVariants.{Fine}
+use Rattle.std.specs.Prelude.{Ok}
 use Rattle.format.proofs.Listed.{listed}
 use Rattle.lists.proofs.Records.{held}
 use Rattle.plans.specs.Keys.{key_at, last_in}
@@ -24,7 +24,7 @@ target : {machine : ℕ} {mingw : Bool} {b : Bytes} {from to k : ℕ} {targets :
 target r (l, h, u) a = r.each _ l (omega arith) a
 
 -- a list has 8,192 records at most
-few : (b : Bytes) {from to k : ℕ} → check_list b ≡ Fine → (from ≤ k) × (k < to) × (to ≤ both_counts b) → from + (to - from) ≤ 8192
+few : (b : Bytes) {from to k : ℕ} → check_list b ≡ Ok tt → (from ≤ k) × (k < to) × (to ≤ both_counts b) → from + (to - from) ≤ 8192
 few b e (l, h, u) = let s = listed b e in omega (arith, s.shape.firsts, s.shape.natives)
 
 below : (b : Bytes) {from to k t : ℕ} → t < from + (to - from) → (from ≤ k) × (k < to) × (to ≤ both_counts b) → t < both_counts b

@@ -1,7 +1,8 @@
 -- `walks::walk::draw_named` meets its contract.
 use mathlib.Core.Path.{sym, ap, ◌∙◌}
 use native.Mathlib.Omega.{arith}
-use Rattle.plans.specs.Shape.{shaped}
+use Rattle.std.specs.Prelude.{Ok}
+use Rattle.plans.specs.Shape.{planned}
 use Rattle.walks.proofs.Pens.{room-as, drew-as, drew-none}
 use Rattle.walks.proofs.Records.{direct-later, direct-room, direct-drew, short-later, short-now, deferred-now, deferred-later, refused-either, deferred-native, deferred-wanted}
 use Rattle.walks.proofs.walk.draw_named.Goals as goal
@@ -19,33 +20,33 @@ returns-then-is_direct c =
 
 pub returns-then-later-2 : goal.returns-then-later-2
 returns-then-later-2 c =
-    drew-as (short-later _ _ c.args.later _ _ _ _ _ c.plan.ensures _ _ _ c.in-Short.is c.if-later-2.true)
+    drew-as (short-later _ _ c.args.later _ _ _ _ _ (ap (planned _ _) (sym (c.in-Ok-Some.is ∙ ap Ok c.in-Ok-Some.field-0-is)) ∙ c.plan.ensures) c.if-later-2.true)
     (drew-none _ _ _)
 
 pub draw_final-requires : goal.draw_final-requires
-draw_final-requires c = record { room = room-as (sym (short-now _ _ c.args.later _ _ _ _ _ c.plan.ensures _ _ _ c.in-Short.is c.if-later-2.false)) c.requires.room; held = c.requires.held; dll_len_bound = c.requires.dll_len_bound }
+draw_final-requires c = record { room = room-as (sym (short-now _ _ c.args.later _ _ _ _ _ (ap (planned _ _) (sym (c.in-Ok-Some.is ∙ ap Ok c.in-Ok-Some.field-0-is)) ∙ c.plan.ensures) c.if-later-2.false)) c.requires.room; held = c.requires.held; dll_len_bound = c.requires.dll_len_bound }
 
 pub returns-then-not-later : goal.returns-then-not-later
 returns-then-not-later c =
-    drew-as (deferred-now _ _ c.args.later _ _ _ _ _ c.plan.ensures c.in-Deferred.is (c.if-not-later.true))
+    drew-as (deferred-now _ _ c.args.later _ _ _ _ (ap (planned _ _) (sym (c.in-Ok-None.is ∙ ap Ok c.in-Ok-None.field-0-is)) ∙ c.plan.ensures) (c.if-not-later.true))
     (drew-none _ _ _)
 
 pub draw_deferred-requires : goal.draw_deferred-requires
 draw_deferred-requires c =
-    let planned = ap (shaped _ _) (sym c.in-Deferred.is) ∙ c.plan.ensures in
-    let native = deferred-native _ _ _ _ planned in
-    record { room = room-as (sym (deferred-later _ _ c.args.later _ _ _ _ _ _ c.plan.ensures c.in-Deferred.is (c.if-not-later.false))) c.requires.room; held = c.requires.held; b_value = c.requires.b_value; not_arm64ec = native; from_le_k = c.requires.from_le_k; dll_len_bound = c.requires.dll_len_bound; resolved = c.requires.resolved native; k_value = deferred-wanted _ _ _ _ _ planned }
+    let later = ap (planned _ _) (sym (c.in-Ok-None.is ∙ ap Ok c.in-Ok-None.field-0-is)) ∙ c.plan.ensures in
+    let native = deferred-native _ _ _ _ later in
+    record { room = room-as (sym (deferred-later _ _ c.args.later _ _ _ _ _ later (c.if-not-later.false))) c.requires.room; held = c.requires.held; b_value = c.requires.b_value; not_arm64ec = native; from_le_k = c.requires.from_le_k; dll_len_bound = c.requires.dll_len_bound; resolved = c.requires.resolved native; k_value = deferred-wanted _ _ _ _ _ later }
 
 pub returns-else-later-2 : goal.returns-else-later-2
 returns-else-later-2 c =
-    drew-as (short-now _ _ c.args.later _ _ _ _ _ c.plan.ensures _ _ _ c.in-Short.is c.if-later-2.false)
+    drew-as (short-now _ _ c.args.later _ _ _ _ _ (ap (planned _ _) (sym (c.in-Ok-Some.is ∙ ap Ok c.in-Ok-Some.field-0-is)) ∙ c.plan.ensures) c.if-later-2.false)
     c.draw_final.ensures
 
 pub returns-else-not-later : goal.returns-else-not-later
 returns-else-not-later c =
-    drew-as (deferred-later _ _ c.args.later _ _ _ _ _ _ c.plan.ensures c.in-Deferred.is (c.if-not-later.false))
+    drew-as (deferred-later _ _ c.args.later _ _ _ _ _ (ap (planned _ _) (sym (c.in-Ok-None.is ∙ ap Ok c.in-Ok-None.field-0-is)) ∙ c.plan.ensures) (c.if-not-later.false))
     c.draw_deferred.ensures
 
-pub returns-in-Refused : goal.returns-in-Refused
-returns-in-Refused c =
-    drew-as (refused-either _ _ c.args.later _ _ _ _ _ c.plan.ensures _ c.in-Refused.is) (drew-none _ _ _)
+pub returns-in-Err : goal.returns-in-Err
+returns-in-Err c =
+    drew-as (refused-either _ _ c.args.later _ _ _ _ _ (ap (planned _ _) (sym c.in-Err.is) ∙ c.plan.ensures)) (drew-none _ _ _)

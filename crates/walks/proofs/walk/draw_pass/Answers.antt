@@ -6,21 +6,17 @@ use Rattle.walks.proofs.walk.draw_pass.Goals as goal
 
 pub loop-k-init : goal.loop-k-init
 loop-k-init c =
-    (omega arith, c.requires.from_le_to.0, drew-as (in-none _ _ _) (drew-none _ _ _))
+    drew-as (in-none _ _ _) (drew-none _ _ _)
 
 pub draw_record-next-requires : goal.draw_record-next-requires
-draw_record-next-requires c = record { room = pass-room _ _ c.requires.room c.loop-k.invariant.0 c.loop-k-test.true c.loop-k.invariant.2; held = held _ _ c.requires.b_value (omega (arith, c.loop-k-test.true, c.requires.from_le_to.1)); b_value = c.requires.b_value; from_le_k = (c.loop-k.invariant.0, c.loop-k-test.true, c.requires.from_le_to.1); dll_len_bound = c.requires.dll_len_bound; resolved = c.requires.resolved }
-
-pub loop-k-smaller : goal.loop-k-smaller
-loop-k-smaller c =
-    omega (arith, c.loop-k-test.true)
+draw_record-next-requires c = record { room = pass-room _ _ c.requires.room (omega arith) c.loop-k-test.true c.loop-k.invariant; held = held _ _ c.requires.b_value (omega (arith, c.loop-k-test.true, c.requires.from_le_to.1)); b_value = c.requires.b_value; from_le_k = (omega arith, c.loop-k-test.true, c.requires.from_le_to.1); dll_len_bound = c.requires.dll_len_bound; resolved = c.requires.resolved }
 
 pub loop-k-preserved : goal.loop-k-preserved
 loop-k-preserved c =
-    (omega (arith, c.loop-k.invariant.0), omega (arith, c.loop-k-test.true), pass-drew _ _ c.requires.room c.loop-k.invariant.0 c.loop-k-test.true c.loop-k.invariant.2 c.draw_record-next.ensures)
+    pass-drew _ _ c.requires.room (omega arith) c.loop-k-test.true c.loop-k.invariant c.draw_record-next.ensures
 
 pub shape_of-out : goal.shape_of-out
-shape_of-out c = drew-length c.loop-k.invariant.2
+shape_of-out c = drew-length c.loop-k.invariant
 
 pub returns : goal.returns
-returns c = drew-as (in-end _ _ _ _ _ c.loop-k.invariant.1 c.loop-k-test.false) c.loop-k.invariant.2
+returns c = drew-as (in-end _ _ _ _ _ (omega (arith, c.requires.from_le_to.0)) c.loop-k-test.false) c.loop-k.invariant

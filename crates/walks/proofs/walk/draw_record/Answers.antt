@@ -4,7 +4,8 @@ use Rattle.walks.proofs.Pens.{room-as, drew-as, drew-none}
 use native.Mathlib.Omega.{arith}
 use lib.ListN.{length}
 use mathlib.Core.Option.{some}
-use Rattle.plans.proofs.Publics.{public-base, public-renamed, string-length, base-length}
+use Rattle.names.proofs.Renamings.{name-some, name-none, name-few}
+use Rattle.plans.proofs.Publics.{public-base, base-length}
 use Rattle.walks.proofs.Records.{at-private, record-unnamed, record-by, record-11}
 use Rattle.walks.proofs.walk.draw_record.Goals as goal
 
@@ -24,21 +25,20 @@ returns-then-absent-2 c =
     (record-by c.args.later _ _ _ _ _ _ (sym c.is_private.ensures ∙ c.if-is_private.false) _ (public-base _ _ (sym c.absent-2.ensures ∙ c.if-absent-2.true) ∙ ap some (sym c.base.ensures)))
     c.draw_named.ensures
 
-pub replace-r-requires : goal.replace-r-requires
-replace-r-requires c =
-    (omega (arith, ap length c.base-2.ensures, base-length _ _ c.requires.held), omega (arith, ap length c.string.ensures, string-length _ _ 0 c.requires.held (omega arith), c.requires.held.named), omega (arith, ap length c.string-2.ensures, string-length _ _ 1 c.requires.held (omega arith), c.requires.held.few 1 (omega arith)))
+pub renamed-requires : goal.renamed-requires
+renamed-requires c = record { held = c.requires.held; has_ext_name = sym c.absent-2.ensures ∙ c.if-absent-2.false }
 
-pub returns-then-not-found : goal.returns-then-not-found
-returns-then-not-found c =
+pub returns-in_default : goal.returns-in_default
+returns-in_default c =
     drew-as
-    (record-11 c.args.later _ _ _ _ _ _ (sym c.is_private.ensures ∙ c.if-is_private.false) (public-renamed _ _ _ _ _ _ (sym c.absent-2.ensures ∙ c.if-absent-2.false) c.base-2.ensures c.string.ensures c.string-2.ensures (c.replace-r.ensures.fails (c.if-not-found.true))))
+    (record-11 c.args.later _ _ _ _ _ _ (sym c.is_private.ensures ∙ c.if-is_private.false) (name-none c.renamed.ensures c.in_default.is))
     (drew-none _ _ _)
 
 pub draw_named-requires-2 : goal.draw_named-requires-2
-draw_named-requires-2 c = record { room = room-as (sym (record-by c.args.later _ _ _ _ _ _ (sym c.is_private.ensures ∙ c.if-is_private.false) _ (public-renamed _ _ _ _ _ _ (sym c.absent-2.ensures ∙ c.if-absent-2.false) c.base-2.ensures c.string.ensures c.string-2.ensures (c.replace-r.ensures.given (c.if-not-found.false))))) c.requires.room; held = c.requires.held; b_value = c.requires.b_value; from_le_k = c.requires.from_le_k; dll_len_bound = (c.requires.dll_len_bound, omega (arith, c.replace-r.ensures.used, c.replace-r.ensures.fits)); resolved = c.requires.resolved }
+draw_named-requires-2 c = record { room = room-as (sym (record-by c.args.later _ _ _ _ _ _ (sym c.is_private.ensures ∙ c.if-is_private.false) _ (name-some c.renamed.ensures c.in-Some.is c.as_slice.ensures.bytes))) c.requires.room; held = c.requires.held; b_value = c.requires.b_value; from_le_k = c.requires.from_le_k; dll_len_bound = (c.requires.dll_len_bound, omega (arith, c.as_slice.ensures.len, name-few c.renamed.ensures c.in-Some.is)); resolved = c.requires.resolved }
 
 pub returns : goal.returns
 returns c =
     drew-as
-    (record-by c.args.later _ _ _ _ _ _ (sym c.is_private.ensures ∙ c.if-is_private.false) _ (public-renamed _ _ _ _ _ _ (sym c.absent-2.ensures ∙ c.if-absent-2.false) c.base-2.ensures c.string.ensures c.string-2.ensures (c.replace-r.ensures.given (c.if-not-found.false))))
+    (record-by c.args.later _ _ _ _ _ _ (sym c.is_private.ensures ∙ c.if-is_private.false) _ (name-some c.renamed.ensures c.in-Some.is c.as_slice.ensures.bytes))
     c.draw_named-2.ensures

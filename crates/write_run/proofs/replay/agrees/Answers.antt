@@ -6,10 +6,10 @@ use Rattle.write_run.proofs.replay.agrees.Goals as goal
 pub returns-then-not-is_asked : goal.returns-then-not-is_asked
 returns-then-not-is_asked c = differs
 
-pub returns-in-Total : goal.returns-in-Total
-returns-in-Total c = λ e.
-    agrees-written c.write.ensures (search rules) c.in-Total.is _ _ _ c.requires (c.is_asked.ensures (c.if-not-is_asked.false)) (c.is_written.ensures e)
+pub returns-in-Ok : goal.returns-in-Ok
+returns-in-Ok c = λ e.
+    agrees-written c.write.ensures (search rules) c.in-Ok.is _ _ _ c.requires (c.is_asked.ensures (c.if-not-is_asked.false)) (c.is_written.ensures e)
 
-pub returns-in-Refused : goal.returns-in-Refused
-returns-in-Refused c = λ e.
-    agrees-refused c.write.ensures (search rules) c.in-Refused.is _ _ _ c.requires (c.is_asked.ensures (c.if-not-is_asked.false)) (c.is_refused.ensures e)
+pub returns-in-Err : goal.returns-in-Err
+returns-in-Err c = λ e.
+    agrees-refused c.write.ensures (search rules) c.in-Err.is _ _ _ c.requires (c.is_asked.ensures (c.if-not-is_asked.false)) (c.is_refused.ensures e)

@@ -10,10 +10,10 @@ returns-then-kept-eq0 c = differs
 pub returns-then-number-kept : goal.returns-then-number-kept
 returns-then-number-kept c = differs
 
-pub returns-then-place-kept : goal.returns-then-place-kept
-returns-then-place-kept c = differs
+pub returns-then-refusal-kept : goal.returns-then-refusal-kept
+returns-then-refusal-kept c = differs
 
 pub returns : goal.returns
 returns c = λ e.
     let some = c.if-kept-eq0.false in
-    (answer-refused _ _ _ some c.if-number-kept.false c.if-place-kept.false, some, λ set. output-refused _ set _ _ some (same-eq _ _ (sym c.same.ensures ∙ e)))
+    (answer-refused _ _ c.number.ensures.0 c.if-number-kept.false c.if-refusal-kept.false, some, λ set. output-refused _ set _ _ some (same-eq _ _ (sym c.same.ensures ∙ e)))

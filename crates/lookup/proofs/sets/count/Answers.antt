@@ -1,7 +1,0 @@
--- `lookup::sets::count` meets its contract.
-use native.Mathlib.Omega.{arith}
-use Rattle.lookup.proofs.Laying.{laid-header}
-use Rattle.lookup.proofs.sets.count.Goals as goal
-
-pub field-requires : goal.field-requires
-field-requires c = omega (arith, laid-header _ c.requires)
