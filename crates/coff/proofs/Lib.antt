@@ -1,2 +1,3 @@
--- Laws of the machines' table.
+-- Laws of the rows, and of their table.
+pub mod Rows
 pub mod Table

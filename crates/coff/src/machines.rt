@@ -1,7 +1,7 @@
 // The six machines, each with its relocation and its width, in one table that is searched by number.
 ghost use Rattle.std.specs.Prelude.{◌≡◌};
 ghost use Rattle.format.specs.Machines.{hybrid, first_machine, native_machine};
-ghost use Rattle.coff.specs.Machines.{machine_of, IsMachine};
+ghost use Rattle.coff.specs.Rows.{IsRow};
 
 use crate::constants::{
     IMAGE_FILE_MACHINE_AMD64, IMAGE_FILE_MACHINE_ARM64, IMAGE_FILE_MACHINE_ARM64EC,
@@ -17,6 +17,7 @@ pub struct Machine {
     pub relocation: u16,
     // 64-bit.
     pub wide: bool,
+    pub ghost row: { IsRow number relocation wide },
 }
 
 // The scope paper binds this form: one constant table, searched by number.
@@ -58,18 +59,6 @@ const ARM64: usize = 3;
 
 const ARM64EC: usize = 4;
 
-// The machine of a number. The number is not cut to 16 bits.
-pub fn find_machine(number: u32) -> Option<Machine>
-    ensures { result ≡ machine_of number }
-{
-    for m in MACHINES {
-        if u32::from(m.number) == number {
-            return Some(m);
-        }
-    }
-    None
-}
-
 // Whether a machine is ARM64EC or ARM64X, which have one machine for each list.
 #[tactic(auto, unfolding(format::specs::Machines::hybrid))]
 pub fn is_arm64ec(machine: u16) -> bool
@@ -78,24 +67,41 @@ pub fn is_arm64ec(machine: u16) -> bool
     machine == IMAGE_FILE_MACHINE_ARM64EC || machine == IMAGE_FILE_MACHINE_ARM64X
 }
 
-// The machine of the first list.
-pub fn first_machine(machine: Machine) -> Machine
-    requires { IsMachine machine }
-    ensures { (result.number ≡ first_machine machine.number) × IsMachine result }
-{
-    if is_arm64ec(machine.number) {
-        return MACHINES[ARM64EC];
-    }
-    machine
-}
+impl Machine {
+    ghost use Rattle.coff.specs.Machines.{MachineOf};
 
-// The machine of the fixed members and of the native list.
-pub fn native_machine(machine: Machine) -> Machine
-    requires { IsMachine machine }
-    ensures { (result.number ≡ native_machine machine.number) × IsMachine result }
-{
-    if is_arm64ec(machine.number) {
-        return MACHINES[ARM64];
+    // The machine of a number. The number is not cut to 16 bits.
+    #[tactic(auto, unfolding(format::specs::Machines::opened))]
+    pub fn find(number: u32) -> Option<Machine>
+        ensures { MachineOf number result }
+    {
+        for m in MACHINES {
+            if u32::from(m.number) == number {
+                return Some(m);
+            }
+        }
+        None
     }
-    machine
+
+    // The machine of the first list.
+    #[tactic(auto, unfolding(format::specs::Machines::opened))]
+    pub fn first(self) -> Machine
+        ensures { result.number ≡ first_machine self.number }
+    {
+        if is_arm64ec(self.number) {
+            return MACHINES[ARM64EC];
+        }
+        self
+    }
+
+    // The machine of the fixed members and of the native list.
+    #[tactic(auto, unfolding(format::specs::Machines::opened))]
+    pub fn native(self) -> Machine
+        ensures { result.number ≡ native_machine self.number }
+    {
+        if is_arm64ec(self.number) {
+            return MACHINES[ARM64];
+        }
+        self
+    }
 }

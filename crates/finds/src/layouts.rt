@@ -5,7 +5,6 @@ ghost use Rattle.std.specs.Prelude.{◌+◌, ◌≤◌, ◌≡◌, [], ◌∷◌
 ghost use Rattle.wire.specs.Writes.{Found};
 ghost use Rattle.format.specs.Layouts.{import_header_size, descriptor, null_descriptor, null_thunk, weak, compat_stem, encode};
 ghost use Rattle.format.specs.Reader.{text_at, weak_strings_at};
-ghost use Rattle.coff.specs.Machines.{IsMachine};
 ghost use Rattle.members.specs.Members.{IsStem, short_of};
 
 use crate::strings;
@@ -30,7 +29,6 @@ pub fn find_import_descriptor(
     stem: &[u8],
     compat: bool,
 ) -> usize
-    requires machine { IsMachine machine }
     requires dll_len_bound { length dll.now ≤ 255 }
     requires stem { IsStem stem.now dll.now }
     ensures { Found s.now 0 (encode (descriptor machine.number dll.now compat)) result }
@@ -42,8 +40,7 @@ pub fn find_import_descriptor(
 
 // A null import descriptor.
 pub fn find_null_import_descriptor(s: &[u8], machine: Machine, stem: &[u8], compat: bool) -> usize
-    requires machine { IsMachine machine }
-    requires stem_len_bound { length stem.now ≤ 255 }
+    requires { length stem.now ≤ 255 }
     ensures { Found s.now 0 (encode (null_descriptor machine.number (compat_stem compat stem.now))) result }
 {
     let mut member = [0; LONGEST];
@@ -53,8 +50,7 @@ pub fn find_null_import_descriptor(s: &[u8], machine: Machine, stem: &[u8], comp
 
 // A null thunk.
 pub fn find_null_thunk(s: &[u8], machine: Machine, stem: &[u8]) -> usize
-    requires machine { IsMachine machine }
-    requires stem_len_bound { length stem.now ≤ 255 }
+    requires { length stem.now ≤ 255 }
     ensures { Found s.now 0 (encode (null_thunk machine.number stem.now)) result }
 {
     let mut member = [0; LONGEST];

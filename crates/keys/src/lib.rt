@@ -13,7 +13,6 @@ ghost use Rattle.format.specs.Exports.{both_counts, export_at};
 ghost use Rattle.format.specs.Plan.{plan_public};
 ghost use Rattle.format.specs.Library.{answers_to};
 ghost use Rattle.format.specs.Refusals.{check_list};
-ghost use Rattle.lists.specs.Held.{Held};
 ghost use Rattle.plans.specs.Keys.{key_at, last_in};
 ghost use Rattle.keys.specs.Hash.{hash_of};
 ghost use Rattle.keys.specs.Slots.{slot_at, row_of, holding, probe, sought, Within, Entered};
@@ -21,7 +20,7 @@ ghost use Rattle.keys.specs.Targets.{target_of, any_wanted, Resolved};
 
 use crate::hash::hash;
 use coff::constants::IMAGE_FILE_MACHINE_ARM64EC;
-use lists::record;
+use lists::record::Record;
 use names::types;
 use plans::keys::key_is;
 use plans::{plan, public};
@@ -117,185 +116,163 @@ fn clear(slots: &mut [Row])
     }
 }
 
-// Where the search for a key ends, given its hash. Only where hashes are equal are keys compared.
-fn seek(slots: &[Row], b: &[u8], machine: u16, mingw: bool, key: &[u8], h: u32) -> Option<Spot>
-    requires in_bounds { 8192 ≤ length slots.now }
-    requires within { Within (both_counts b.now) (slot_at slots.now) }
-    requires b_value { check_list b.now ≡ Ok tt }
-    requires not_arm64ec { machine ≢ arm64ec }
-    requires h_value { h ≡ hash_of key.now }
-    ensures { result ≡ sought (key_at machine mingw b.now) (slot_at slots.now) key.now }
-{
-    for d in 0..SLOTS {
-        let at = probe(h, d);
-        let s = get(slots, at);
-        if s.state == FREE {
-            return Some(Spot::Free(at));
-        }
-        if s.hash != h {
-            continue;
-        }
-        if key_is(b, s.record, machine, mingw, key) {
-            return Some(Spot::Used(at, s.record));
-        }
-    }
-    None
-}
-
-// Inserts a record under its key where the search for that ends: a record with an equal key gives way.
-fn insert(slots: &mut [Row], b: &[u8], k: u32, machine: u16, mingw: bool, from: u32, key: &[u8])
-    requires in_bounds { 8192 ≤ length slots.old }
-    requires entered { Entered (key_at machine mingw b.now) from (k - from) (slot_at slots.old) }
-    requires b_value { check_list b.now ≡ Ok tt }
-    requires not_arm64ec { machine ≢ arm64ec }
-    requires from_le_k { (from ≤ k) × (k < both_counts b.now) × (k < 8192) }
-    requires k_value { key_at machine mingw b.now key.now k ≡ true }
-    ensures { Entered (key_at machine mingw b.now) from (k + 1 - from) (slot_at slots.new) }
-{
-    let h = hash(key);
-    match seek(slots, b, machine, mingw, key, h) {
-        Some(Spot::Free(at)) => put(slots, at, holding(h, k)),
-        Some(Spot::Used(at, _first)) => {
-            let last = holding(h, k);
-            put(slots, at, last);
-        }
-        None => {}
-    }
-}
-
-// Inserts the import of a record under its public name, by its type applied to that name; one that has no key leaves the table.
-fn insert_named(
-    slots: &mut [Row],
-    b: &[u8],
-    k: u32,
-    machine: u16,
-    mingw: bool,
-    from: u32,
-    public: &[u8],
-)
-    requires in_bounds { 8192 ≤ length slots.old }
-    requires entered { Entered (key_at machine mingw b.now) from (k - from) (slot_at slots.old) }
-    requires b_value { check_list b.now ≡ Ok tt }
-    requires not_arm64ec { machine ≢ arm64ec }
-    requires from_le_k { (from ≤ k) × (k < both_counts b.now) }
-    requires held { Held b.now k }
-    requires public_value { (w : Bytes) → answers_to w (plan_public machine mingw (export_at b.now k) (some public.now)) ≡ key_at machine mingw b.now w k }
-    ensures { Entered (key_at machine mingw b.now) from (k + 1 - from) (slot_at slots.new) }
-{
-    match plan(b, k, machine, mingw, public) {
-        Ok(Some(short)) => {
-            let s = types::apply_name_type(short.name_type, public);
-            insert(
-                slots,
-                b,
-                k,
-                machine,
-                mingw,
-                from,
-                wire::part(public, s.start, s.length),
-            );
-        }
-        Ok(None) => {}
-        Err(_) => {}
-    }
-}
-
-// Inserts the import of a record; a private one has no key and leaves the table.
-fn insert_record(slots: &mut [Row], b: &[u8], k: u32, machine: u16, mingw: bool, from: u32)
-    requires in_bounds { 8192 ≤ length slots.old }
-    requires entered { Entered (key_at machine mingw b.now) from (k - from) (slot_at slots.old) }
-    requires b_value { check_list b.now ≡ Ok tt }
-    requires not_arm64ec { machine ≢ arm64ec }
-    requires from_le_k { (from ≤ k) × (k < both_counts b.now) }
-    requires held { Held b.now k }
-    ensures { Entered (key_at machine mingw b.now) from (k + 1 - from) (slot_at slots.new) }
-{
-    if record::is_private(b, k) {
-        return;
-    }
-    if record::absent(b, k, record::EXT_NAME) {
-        return insert_named(slots, b, k, machine, mingw, from, record::base(b, k));
-    }
-    let Some(name) = public::renamed(b, k) else {
-        return;
-    };
-    insert_named(slots, b, k, machine, mingw, from, name.as_slice());
-}
-
-// Fills the table with the records from one up to another, whatever it held.
-fn insert_all(slots: &mut [Row], b: &[u8], machine: u16, mingw: bool, from: u32, to: u32)
-    requires in_bounds { 8192 ≤ length slots.old }
-    requires b_value { check_list b.now ≡ Ok tt }
-    requires not_arm64ec { machine ≢ arm64ec }
-    requires from_le_to { (from ≤ to) × (to ≤ both_counts b.now) }
-    ensures { Entered (key_at machine mingw b.now) from (to - from) (slot_at slots.new) }
-{
-    clear(slots);
-    for k in from..to {
-        insert_record(slots, b, k, machine, mingw, from);
-    }
-}
-
-// The last of the inserted records, from one up to another, whose import has the wanted key, or NO_TARGET.
-fn find(
-    slots: &[Row],
-    b: &[u8],
+// The records of a checked list from one up to another, under a machine that has aliases: all but ARM64EC.
+#[derive(Clone, Copy)]
+struct Run<'a> {
+    list: &'a [u8],
     machine: u16,
     mingw: bool,
     from: u32,
     to: u32,
-    wanted: &[u8],
-) -> u16
-    requires in_bounds { 8192 ≤ length slots.now }
-    requires entered { Entered (key_at machine mingw b.now) from (to - from) (slot_at slots.now) }
-    requires b_value { check_list b.now ≡ Ok tt }
-    requires not_arm64ec { machine ≢ arm64ec }
-    requires from_le_to { (from ≤ to) × (to ≤ both_counts b.now) }
-    ensures { result ≡ target_of (last_in (key_at machine mingw b.now wanted.now) from (to - from)) }
-{
-    let h = hash(wanted);
-    match seek(slots, b, machine, mingw, wanted, h) {
-        Some(Spot::Used(_, k)) => k as u16,
-        Some(Spot::Free(_)) => NO_TARGET,
-        None => NO_TARGET,
-    }
+    ghost checked: { check_list list.now ≡ Ok tt },
+    ghost not_arm64ec: { machine ≢ arm64ec },
+    ghost within: { (from ≤ to) × (to ≤ both_counts list.now) },
 }
 
-// Stores the target of each record from one up to another that has an import_name; all other targets stay.
-fn find_all(
-    slots: &[Row],
-    b: &[u8],
-    machine: u16,
-    mingw: bool,
-    from: u32,
-    to: u32,
-    targets: &mut [u16],
-)
-    requires in_bounds { 8192 ≤ length slots.now }
-    requires entered { Entered (key_at machine mingw b.now) from (to - from) (slot_at slots.now) }
-    requires b_value { check_list b.now ≡ Ok tt }
-    requires not_arm64ec { machine ≢ arm64ec }
-    requires from_le_to { (from ≤ to) × (to ≤ both_counts b.now) }
-    requires b_in_bounds { both_counts b.now ≤ length targets.old }
-    ensures { Resolved machine mingw b.now from (to - from) targets.new × ((j : ℕ) → j < from → slice_index targets.new j ≡ slice_index targets.old j) }
-{
-    for k in from..to {
-        if record::absent(b, k, record::IMPORT_NAME) {
-            continue;
+impl Run<'_> {
+    // Where the search for a key ends, given its hash. Only where hashes are equal are keys compared.
+    fn seek(&self, slots: &[Row], key: &[u8], h: u32) -> Option<Spot>
+        requires in_bounds { 8192 ≤ length slots.now }
+        requires within { Within (both_counts self.now.list.now) (slot_at slots.now) }
+        requires h_value { h ≡ hash_of key.now }
+        ensures { result ≡ sought (key_at self.now.machine self.now.mingw self.now.list.now) (slot_at slots.now) key.now }
+    {
+        for d in 0..SLOTS {
+            let at = probe(h, d);
+            let s = get(slots, at);
+            if s.state == FREE {
+                return Some(Spot::Free(at));
+            }
+            if s.hash != h {
+                continue;
+            }
+            let r = Record {
+                list: self.list,
+                index: s.record,
+            };
+            if key_is(r, self.machine, self.mingw, key) {
+                return Some(Spot::Used(at, s.record));
+            }
         }
-        let wanted = record::string(b, k, record::IMPORT_NAME);
-        targets[k as usize] = find(slots, b, machine, mingw, from, to, wanted);
+        None
+    }
+
+    // Inserts a record under its key where the search for that ends: a record with an equal key gives way.
+    fn insert(&self, slots: &mut [Row], k: u32, key: &[u8])
+        requires in_bounds { 8192 ≤ length slots.old }
+        requires entered { Entered (key_at self.now.machine self.now.mingw self.now.list.now) self.now.from (k - self.now.from) (slot_at slots.old) }
+        requires from_le_k { (self.now.from ≤ k) × (k < both_counts self.now.list.now) }
+        requires k_value { key_at self.now.machine self.now.mingw self.now.list.now key.now k ≡ true }
+        ensures { Entered (key_at self.now.machine self.now.mingw self.now.list.now) self.now.from (k + 1 - self.now.from) (slot_at slots.new) }
+    {
+        let h = hash(key);
+        match self.seek(slots, key, h) {
+            Some(Spot::Free(at)) => put(slots, at, holding(h, k)),
+            Some(Spot::Used(at, _first)) => {
+                let last = holding(h, k);
+                put(slots, at, last);
+            }
+            None => {}
+        }
+    }
+
+    // Inserts the import of a record under its public name, by its type applied to that name; one that has no key leaves the table.
+    fn insert_named(&self, slots: &mut [Row], r: Record, public: &[u8])
+        requires in_bounds { 8192 ≤ length slots.old }
+        requires entered { Entered (key_at self.now.machine self.now.mingw self.now.list.now) self.now.from (r.index - self.now.from) (slot_at slots.old) }
+        requires from_le_k { (self.now.from ≤ r.index) × (r.index < both_counts self.now.list.now) }
+        requires public_value { (w : Bytes) → answers_to w (plan_public self.now.machine self.now.mingw (export_at r.list.now r.index) (some public.now)) ≡ key_at self.now.machine self.now.mingw self.now.list.now w r.index }
+        ensures { Entered (key_at self.now.machine self.now.mingw self.now.list.now) self.now.from (r.entry.index + 1 - self.now.from) (slot_at slots.new) }
+    {
+        match plan(r, self.machine, self.mingw, public) {
+            Ok(Some(short)) => {
+                let s = types::apply_name_type(short.name_type, public);
+                let key = wire::part(public, s.start, s.length);
+                self.insert(slots, r.index, key);
+            }
+            Ok(None) => {}
+            Err(_) => {}
+        }
+    }
+
+    // Inserts the import of a record; a private one has no key and leaves the table.
+    fn insert_record(&self, slots: &mut [Row], k: u32)
+        requires in_bounds { 8192 ≤ length slots.old }
+        requires entered { Entered (key_at self.now.machine self.now.mingw self.now.list.now) self.now.from (k - self.now.from) (slot_at slots.old) }
+        requires from_le_k { (self.now.from ≤ k) × (k < both_counts self.now.list.now) }
+        ensures { Entered (key_at self.now.machine self.now.mingw self.now.list.now) self.now.from (k + 1 - self.now.from) (slot_at slots.new) }
+    {
+        let r = Record {
+            list: self.list,
+            index: k,
+        };
+        if r.is_private() {
+            return;
+        }
+        let Some(ext_name) = r.ext_name() else {
+            return self.insert_named(slots, r, r.base());
+        };
+        let Some(name) = public::renamed(r, ext_name) else {
+            return;
+        };
+        self.insert_named(slots, r, name.as_slice());
+    }
+
+    // Fills the table with the records, whatever it held.
+    fn insert_all(&self, slots: &mut [Row])
+        requires { 8192 ≤ length slots.old }
+        ensures { Entered (key_at self.now.machine self.now.mingw self.now.list.now) self.now.from (self.now.to - self.now.from) (slot_at slots.new) }
+    {
+        clear(slots);
+        for k in self.from..self.to {
+            self.insert_record(slots, k);
+        }
+    }
+
+    // The last of the inserted records whose import has the wanted key, or NO_TARGET.
+    fn find(&self, slots: &[Row], wanted: &[u8]) -> u16
+        requires in_bounds { 8192 ≤ length slots.now }
+        requires entered { Entered (key_at self.now.machine self.now.mingw self.now.list.now) self.now.from (self.now.to - self.now.from) (slot_at slots.now) }
+        ensures { result ≡ target_of (last_in (key_at self.now.machine self.now.mingw self.now.list.now wanted.now) self.now.from (self.now.to - self.now.from)) }
+    {
+        let h = hash(wanted);
+        match self.seek(slots, wanted, h) {
+            Some(Spot::Used(_, k)) => k as u16,
+            Some(Spot::Free(_)) => NO_TARGET,
+            None => NO_TARGET,
+        }
+    }
+
+    // Stores the target of each record that has an import_name; all other targets stay.
+    fn find_all(&self, slots: &[Row], targets: &mut [u16])
+        requires in_bounds { 8192 ≤ length slots.now }
+        requires entered { Entered (key_at self.now.machine self.now.mingw self.now.list.now) self.now.from (self.now.to - self.now.from) (slot_at slots.now) }
+        requires list_in_bounds { both_counts self.now.list.now ≤ length targets.old }
+        ensures { Resolved self.now.machine self.now.mingw self.now.list.now self.now.from (self.now.to - self.now.from) targets.new × ((j : ℕ) → j < self.now.from → slice_index targets.new j ≡ slice_index targets.old j) }
+    {
+        for k in self.from..self.to {
+            let r = Record {
+                list: self.list,
+                index: k,
+            };
+            let Some(wanted) = r.import_name() else {
+                continue;
+            };
+            targets[k as usize] = self.find(slots, wanted);
+        }
     }
 }
 
 // Whether one of the records from one up to another has an import_name.
+// A loop and not `any`: its closure would need clauses of its own, that the list holds the record and what the import_name tells.
 pub fn has_wanted(b: &[u8], from: u32, to: u32) -> bool
     requires b_value { check_list b.now ≡ Ok tt }
     requires from_le_to { (from ≤ to) × (to ≤ both_counts b.now) }
     ensures { result ≡ any_wanted b.now from (to - from) }
 {
     for k in from..to {
-        if !record::absent(b, k, record::IMPORT_NAME) {
+        let r = Record { list: b, index: k };
+        if r.import_name().is_some() {
             return true;
         }
     }
@@ -326,6 +303,13 @@ pub fn resolve(
     if !has_wanted(b, from, to) {
         return;
     }
-    insert_all(slots, b, machine, mingw, from, to);
-    find_all(slots, b, machine, mingw, from, to, targets);
+    let run = Run {
+        list: b,
+        machine,
+        mingw,
+        from,
+        to,
+    };
+    run.insert_all(slots);
+    run.find_all(slots, targets);
 }

@@ -1,5 +1,4 @@
 -- Laws of the members' parts, by subject.
 pub mod Runs
 pub mod Sizes
-pub mod ByWidth
 pub mod NullNames

@@ -1,7 +1,6 @@
 // What a machine's width decides.
 ghost use Rattle.std.specs.Prelude.{◌≤◌, ◌≡◌};
 ghost use Rattle.format.specs.Layouts.{IMAGE-SCN-ALIGN-8BYTES, characteristics, slot_size, slot_alignment};
-ghost use Rattle.coff.specs.Machines.{IsMachine};
 
 use coff::constants::{IMAGE_FILE_32BIT_MACHINE, IMAGE_SCN_ALIGN_4BYTES, IMAGE_SCN_ALIGN_8BYTES};
 use coff::machines::Machine;
@@ -12,8 +11,8 @@ const SLOT_64: u32 = 8;
 const SLOT_32: u32 = 4;
 
 // The characteristics of a member of a machine.
+#[tactic(auto, unfolding(format::specs::Layouts::characteristics))]
 pub fn characteristics(machine: Machine) -> u16
-    requires { IsMachine machine }
     ensures { result ≡ characteristics machine.number }
 {
     if machine.wide {
@@ -23,8 +22,8 @@ pub fn characteristics(machine: Machine) -> u16
 }
 
 // How many bytes a slot of the import tables has.
+#[tactic(auto, unfolding(format::specs::Layouts::slot_size))]
 pub fn slot_size(machine: Machine) -> u32
-    requires { IsMachine machine }
     ensures { (result ≡ slot_size machine.number) × (result ≤ 8) }
 {
     if machine.wide {
@@ -34,8 +33,8 @@ pub fn slot_size(machine: Machine) -> u32
 }
 
 // How the sections of the slots are aligned.
+#[tactic(auto, unfolding(format::specs::Layouts::slot_alignment))]
 pub fn slot_alignment(machine: Machine) -> u32
-    requires { IsMachine machine }
     ensures { (result ≡ slot_alignment machine.number) × (result ≤ IMAGE-SCN-ALIGN-8BYTES) }
 {
     if machine.wide {

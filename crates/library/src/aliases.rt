@@ -2,11 +2,9 @@
 ghost use Rattle.std.specs.Prelude.{◌≡◌, ◌≤◌, length, Ok};
 ghost use Rattle.format.specs.Exports.{both_counts};
 ghost use Rattle.format.specs.Refusals.{check_list, table_slots};
-ghost use Rattle.coff.specs.Machines.{IsMachine};
 ghost use Rattle.keys.specs.Targets.{any_wanted};
 ghost use Rattle.library.specs.Sets.{ResolvedAll};
 
-use coff::machines;
 use coff::machines::Machine;
 use keys::Row;
 
@@ -26,12 +24,11 @@ pub fn has_wanted(b: &[u8]) -> bool
 pub fn resolve_all(slots: &mut [Row], b: &[u8], machine: Machine, mingw: bool, targets: &mut [u16])
     requires table_slots_in_bounds { table_slots ≤ length slots.old }
     requires b_value { check_list b.now ≡ Ok tt }
-    requires machine { IsMachine machine }
     requires b_in_bounds { both_counts b.now ≤ length targets.old }
     ensures { ResolvedAll machine.number mingw b.now targets.new }
 {
-    let first = machines::first_machine(machine);
-    let native = machines::native_machine(machine);
+    let first = machine.first();
+    let native = machine.native();
     let count = wire::u32_at(b, lists::FIRST_COUNT);
     let both = count + wire::u32_at(b, lists::NATIVE_COUNT);
     keys::resolve(slots, b, first.number, mingw, 0, count, targets);

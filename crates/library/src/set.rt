@@ -4,12 +4,10 @@ ghost use Rattle.wire.specs.Writes.{Wrote};
 ghost use Rattle.format.specs.Library.{all_members, member_set};
 ghost use Rattle.format.specs.Refusals.{check_list, check_exports, table_slots};
 ghost use Rattle.format.specs.Answers.{written, output_after, Writes};
-ghost use Rattle.coff.specs.Machines.{IsMachine};
 ghost use Rattle.walks.specs.Pen.{entry_of, at_of, Room};
 ghost use Rattle.library.specs.Sets.{ResolvedBy, ResolvedAll, members_by, DrewBy, DrewAll, farthest, Measured, header_bytes};
 
 use crate::aliases::{MAX_EXPORTS, has_wanted, resolve_all};
-use coff::machines;
 use coff::machines::Machine;
 use format::{Reason, Refusal};
 use keys::Row;
@@ -46,7 +44,6 @@ fn draw_members(
 ) -> Drawn
     requires room { Room (entry_of pen) (at_of pen) (members_by first native.number mingw compat dll.now b.now) }
     requires b_value { check_list b.now ≡ Ok tt }
-    requires machine { IsMachine native }
     requires dll_len_bound { length dll.now ≤ 255 }
     requires resolved_by { ResolvedBy first native.number mingw b.now targets.now }
     ensures { DrewBy first native.number mingw compat dll.now b.now out.old (entry_of pen) (at_of pen) out.new (entry_of result.pen) (at_of result.pen) result.firsts result.natives }
@@ -86,12 +83,11 @@ fn draw_all(
 ) -> Drawn
     requires room { Room (entry_of pen) (at_of pen) (all_members (record { machine = machine.number; mingw = mingw; compat = compat }) b.now) }
     requires b_value { check_list b.now ≡ Ok tt }
-    requires machine { IsMachine machine }
     requires resolved_all { ResolvedAll machine.number mingw b.now targets.now }
     ensures { DrewAll (record { machine = machine.number; mingw = mingw; compat = compat }) b.now out.old (entry_of pen) (at_of pen) out.new (entry_of result.pen) (at_of result.pen) result.firsts result.natives }
 {
-    let first = machines::first_machine(machine);
-    let native = machines::native_machine(machine);
+    let first = machine.first();
+    let native = machine.native();
     draw_members(
         out,
         pen,
@@ -116,7 +112,6 @@ fn measure(
 ) -> Drawn
     requires none_len { length none.old ≡ 0 }
     requires b_value { check_exports (record { machine = machine.number; mingw = mingw; compat = compat }) b.now ≡ Ok tt }
-    requires machine { IsMachine machine }
     requires resolved_all { ResolvedAll machine.number mingw b.now targets.now }
     ensures { (none.new ≡ []) × Measured (record { machine = machine.number; mingw = mingw; compat = compat }) b.now (entry_of result.pen) (at_of result.pen) result.firsts result.natives }
 {
@@ -135,7 +130,6 @@ fn total_of(pen: u64) -> usize
 // The total of the set of an accepted list whose aliases were resolved.
 fn total_resolved(b: &[u8], machine: Machine, mingw: bool, compat: bool, targets: &[u16]) -> usize
     requires b_value { check_exports (record { machine = machine.number; mingw = mingw; compat = compat }) b.now ≡ Ok tt }
-    requires machine { IsMachine machine }
     requires resolved_all { ResolvedAll machine.number mingw b.now targets.now }
     ensures { result ≡ length (member_set (record { machine = machine.number; mingw = mingw; compat = compat }) b.now) }
 {
@@ -146,8 +140,7 @@ fn total_resolved(b: &[u8], machine: Machine, mingw: bool, compat: bool, targets
 
 // The total of the set of an accepted list with aliases, resolved in a table of its own.
 fn total_aliased(b: &[u8], machine: Machine, mingw: bool, compat: bool) -> usize
-    requires b_value { check_exports (record { machine = machine.number; mingw = mingw; compat = compat }) b.now ≡ Ok tt }
-    requires machine { IsMachine machine }
+    requires { check_exports (record { machine = machine.number; mingw = mingw; compat = compat }) b.now ≡ Ok tt }
     ensures { result ≡ length (member_set (record { machine = machine.number; mingw = mingw; compat = compat }) b.now) }
 {
     let mut slots = [[0u32; 3]; keys::SLOTS];
@@ -158,8 +151,7 @@ fn total_aliased(b: &[u8], machine: Machine, mingw: bool, compat: bool) -> usize
 
 // The total of the set of an accepted list. A table is made only where an alias may be looked for.
 pub fn total_accepted(b: &[u8], machine: Machine, mingw: bool, compat: bool) -> usize
-    requires b_value { check_exports (record { machine = machine.number; mingw = mingw; compat = compat }) b.now ≡ Ok tt }
-    requires machine { IsMachine machine }
+    requires { check_exports (record { machine = machine.number; mingw = mingw; compat = compat }) b.now ≡ Ok tt }
     ensures { result ≡ length (member_set (record { machine = machine.number; mingw = mingw; compat = compat }) b.now) }
 {
     if has_wanted(b) {
@@ -190,7 +182,6 @@ fn write_resolved(
     out: &mut [u8],
 ) -> Result<usize, Refusal>
     requires b_value { check_exports (record { machine = machine.number; mingw = mingw; compat = compat }) b.now ≡ Ok tt }
-    requires machine { IsMachine machine }
     requires resolved_all { ResolvedAll machine.number mingw b.now targets.now }
     ensures { (result ≡ written (record { machine = machine.number; mingw = mingw; compat = compat }) b.now table_slots (length out.old)) × (out.new ≡ output_after (record { machine = machine.number; mingw = mingw; compat = compat }) b.now table_slots out.old) }
 {
@@ -217,7 +208,6 @@ fn write_aliased(
     out: &mut [u8],
 ) -> Result<usize, Refusal>
     requires b_value { check_exports (record { machine = machine.number; mingw = mingw; compat = compat }) b.now ≡ Ok tt }
-    requires machine { IsMachine machine }
     requires table_slots_in_bounds { table_slots ≤ length slots.old }
     ensures { (result ≡ written (record { machine = machine.number; mingw = mingw; compat = compat }) b.now table_slots (length out.old)) × (out.new ≡ output_after (record { machine = machine.number; mingw = mingw; compat = compat }) b.now table_slots out.old) }
 {
@@ -235,8 +225,7 @@ pub fn write_accepted(
     slots: &mut [Row],
     out: &mut [u8],
 ) -> Result<usize, Refusal>
-    requires b_value { check_exports (record { machine = machine.number; mingw = mingw; compat = compat }) b.now ≡ Ok tt }
-    requires machine { IsMachine machine }
+    requires { check_exports (record { machine = machine.number; mingw = mingw; compat = compat }) b.now ≡ Ok tt }
     ensures { Writes (record { machine = machine.number; mingw = mingw; compat = compat }) b.now slots.old out.old result slots.new out.new }
 {
     if slots.len() < keys::SLOTS {

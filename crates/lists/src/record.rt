@@ -1,113 +1,146 @@
 // The exports of a list that refusals 2 to 10 pass: their strings as parts of the list, and their flags.
 ghost use Rattle.std.specs.Prelude.{◌≡◌, ◌+◌, ◌≤◌, ◌<◌, length};
 ghost use Rattle.coff.specs.Import.{kind_number};
-ghost use Rattle.format.specs.Exports.{header_size, names_at, dll_field, offset_of, length_of, record_at, field_at, absent_at, bytes_at, dll_name, export_at, noname, is_private};
+ghost use Rattle.format.specs.Exports.{header_size, names_at, dll_field, offset_of, length_of, record_at, field_at, string_at, dll_name, export_at, noname, is_private};
 ghost use Rattle.format.specs.Plan.{base, kind};
-ghost use Rattle.lists.specs.Held.{Held};
+ghost use Rattle.lists.specs.Held.{Held, string_of};
 
 use crate::{DLL_FIELD, HEADER_SIZE, NAMES_AT, RECORD_SIZE};
 use coff::import::ImportType;
 
 // The fields of a record that are strings.
-pub const NAME: usize = 0;
+const NAME: usize = 0;
 
-pub const EXT_NAME: usize = 1;
+const EXT_NAME: usize = 1;
 
-pub const SYMBOL_NAME: usize = 2;
+const SYMBOL_NAME: usize = 2;
 
-pub const IMPORT_NAME: usize = 3;
+const IMPORT_NAME: usize = 3;
 
-pub const EXPORT_AS: usize = 4;
+const EXPORT_AS: usize = 4;
+
+// The bits of the flags.
+const NONAME: u16 = 1;
+
+const DATA: u16 = 2;
+
+const PRIVATE: u16 = 4;
+
+const CONSTANT: u16 = 8;
 
 const ORDINAL_AT: usize = 40;
 
 const FLAGS_AT: usize = 42;
 
-// Where the k-th record stands.
-fn record_at(k: u32) -> usize
-    requires { k < 8192 }
-    ensures { result ≡ record_at k }
-{
-    HEADER_SIZE + RECORD_SIZE * (k as usize)
+// A record of a list, by its number.
+#[derive(Clone, Copy)]
+pub struct Record<'a> {
+    pub list: &'a [u8],
+    pub index: u32,
+    pub ghost held: { Held list.now index },
 }
 
-// Whether a record has no such string.
-pub fn absent(b: &[u8], k: u32, f: usize) -> bool
-    requires held { Held b.now k }
-    requires f_bound { f < 5 }
-    ensures { result ≡ absent_at b.now (field_at k f) }
-{
-    let at = record_at(k) + 8 * f;
-    if wire::u32_at(b, at + 4) != 0 {
-        return false;
+impl<'a> Record<'a> {
+    // Where it stands.
+    fn at(self) -> usize
+        ensures { result ≡ record_at self.entry.index }
+    {
+        HEADER_SIZE + RECORD_SIZE * (self.index as usize)
     }
-    wire::u32_at(b, at) == 0
-}
 
-// A string of a record; an absent one is empty.
-pub fn string(b: &[u8], k: u32, f: usize) -> &[u8]
-    requires held { Held b.now k }
-    requires f_bound { f < 5 }
-    ensures { result.now ≡ bytes_at b.now (field_at k f) }
-{
-    let at = record_at(k) + 8 * f;
-    let from = (wire::u32_at(b, NAMES_AT) as usize) + (wire::u32_at(b, at) as usize);
-    let n = wire::u32_at(b, at + 4) as usize;
-    wire::part(b, from, n)
-}
-
-// The base: symbol_name if present, else name.
-pub fn base(b: &[u8], k: u32) -> &[u8]
-    requires { Held b.now k }
-    ensures { result.now ≡ base (export_at b.now k) }
-{
-    if absent(b, k, SYMBOL_NAME) {
-        return string(b, k, NAME);
+    // One of its strings, if it is there.
+    fn string(self, f: usize) -> Option<&'a [u8]>
+        requires { f < 5 }
+        ensures { string_of result ≡ string_at self.entry.list.now (field_at self.entry.index f) }
+    {
+        let at = self.at() + 8 * f;
+        let offset = wire::u32_at(self.list, at);
+        let len = wire::u32_at(self.list, at + 4);
+        if len == 0 && offset == 0 {
+            return None;
+        }
+        let from = (wire::u32_at(self.list, NAMES_AT) as usize) + (offset as usize);
+        Some(wire::part(self.list, from, len as usize))
     }
-    string(b, k, SYMBOL_NAME)
-}
 
-pub fn ordinal(b: &[u8], k: u32) -> u16
-    requires { Held b.now k }
-    ensures { result ≡ (export_at b.now k).ordinal }
-{
-    wire::u16_at(b, record_at(k) + ORDINAL_AT)
-}
-
-pub fn flags(b: &[u8], k: u32) -> u16
-    requires { Held b.now k }
-    ensures { result ≡ (export_at b.now k).flags }
-{
-    wire::u16_at(b, record_at(k) + FLAGS_AT)
-}
-
-pub fn is_noname(b: &[u8], k: u32) -> bool
-    requires { Held b.now k }
-    ensures { result ≡ noname (export_at b.now k) }
-{
-    flags(b, k) / 1 % 2 == 1
-}
-
-pub fn is_private(b: &[u8], k: u32) -> bool
-    requires { Held b.now k }
-    ensures { result ≡ is_private (export_at b.now k) }
-{
-    flags(b, k) / 4 % 2 == 1
-}
-
-// The import kind: constant gives Const, else data gives Data, else Code.
-pub fn import_type(b: &[u8], k: u32) -> ImportType
-    requires { Held b.now k }
-    ensures { kind_number result ≡ kind (export_at b.now k) }
-{
-    let f = flags(b, k);
-    if f / 8 % 2 == 1 {
-        return ImportType::Const;
+    // The name: no record is without.
+    pub fn name(self) -> &'a [u8]
+        ensures { result.now ≡ (export_at self.entry.list.now self.entry.index).name }
+    {
+        self.string(NAME).unwrap()
     }
-    if f / 2 % 2 == 1 {
-        return ImportType::Data;
+
+    pub fn ext_name(self) -> Option<&'a [u8]>
+        ensures { string_of result ≡ string_at self.entry.list.now (field_at self.entry.index 1) }
+    {
+        self.string(EXT_NAME)
     }
-    ImportType::Code
+
+    pub fn symbol_name(self) -> Option<&'a [u8]>
+        ensures { string_of result ≡ string_at self.entry.list.now (field_at self.entry.index 2) }
+    {
+        self.string(SYMBOL_NAME)
+    }
+
+    pub fn import_name(self) -> Option<&'a [u8]>
+        ensures { string_of result ≡ string_at self.entry.list.now (field_at self.entry.index 3) }
+    {
+        self.string(IMPORT_NAME)
+    }
+
+    pub fn export_as(self) -> Option<&'a [u8]>
+        ensures { string_of result ≡ string_at self.entry.list.now (field_at self.entry.index 4) }
+    {
+        self.string(EXPORT_AS)
+    }
+
+    // The base: symbol_name if present, else name.
+    pub fn base(self) -> &'a [u8]
+        ensures { result.now ≡ base (export_at self.entry.list.now self.entry.index) }
+    {
+        match self.symbol_name() {
+            Some(symbol_name) => symbol_name,
+            None => self.name(),
+        }
+    }
+
+    pub fn ordinal(self) -> u16
+        ensures { result ≡ (export_at self.entry.list.now self.entry.index).ordinal }
+    {
+        wire::u16_at(self.list, self.at() + ORDINAL_AT)
+    }
+
+    fn flags(self) -> u16
+        ensures { result ≡ (export_at self.entry.list.now self.entry.index).flags }
+    {
+        wire::u16_at(self.list, self.at() + FLAGS_AT)
+    }
+
+    pub fn is_noname(self) -> bool
+        ensures { result ≡ noname (export_at self.entry.list.now self.entry.index) }
+    {
+        self.flags() & NONAME != 0
+    }
+
+    pub fn is_private(self) -> bool
+        ensures { result ≡ is_private (export_at self.entry.list.now self.entry.index) }
+    {
+        self.flags() & PRIVATE != 0
+    }
+
+    // The import kind: constant gives Const, else data gives Data, else Code.
+    pub fn import_type(self) -> ImportType
+        ensures { kind_number result ≡ kind (export_at self.entry.list.now self.entry.index) }
+    {
+        let flags = self.flags();
+        if flags & CONSTANT != 0 {
+            return ImportType::Const;
+        }
+        if flags & DATA != 0 {
+            return ImportType::Data;
+        }
+        ImportType::Code
+    }
 }
 
 // The DLL name.

@@ -1,13 +1,12 @@
 -- The symbols that a member defines, compared one by one with a symbol.
 use Rattle.std.specs.Prelude.{if◌then◌else◌, None, Some}
 use Rattle.std.specs.Prelude as std
-use Prim.Native.Nat.{ℕ, ◌+◌, ◌-◌, ◌%◌, ◌≤◌}
+use Prim.Native.Nat.{ℕ, ◌+◌, ◌%◌, ◌≤◌}
 use mathlib.Core.Path.{◌≡◌, refl, sym, ap, ◌∙◌}
 use mathlib.Core.Bool.{Bool, true, false}
 use mathlib.Core.Option.{Option, none, some, get_or}
 use mathlib.Core.List.{[], ◌∷◌, ◌++◌, append-nil}
 use native.Mathlib.Decide.{ℕ_discrete}
-use native.Mathlib.Omega.{arith}
 use lib.ListN.{length, take, drop}
 use lib.Dec.{eqb}
 use borrow.Author.Tests.{eq-eqb, ne_eqb}
@@ -15,9 +14,7 @@ use Rattle.wire.specs.Bytes.{Bytes, ascii, u16_at, u32_at, same, part}
 use Rattle.wire.specs.Writes.{Found}
 use Rattle.wire.proofs.Bytes.{same-refl, same-differ}
 use Rattle.wire.proofs.Writes.{◌⨟◌, found-whole, whole-found}
-use Rattle.wire.proofs.Parts.{part-last}
 use Rattle.format.specs.Machines.{arm64ec}
-use Rattle.format.specs.Names.{demangle}
 use Rattle.format.specs.Library.{imp}
 use Rattle.format.specs.Layouts.{import_header_size}
 use Rattle.format.specs.Reader.{text_at, weak_strings_at, short_guess, weak_guess, guess, right, read}

@@ -20,7 +20,7 @@ use crate::sets::MemberSet;
 use format::{Looked, Read, Refusal};
 use layout::places::FIXED_MEMBERS;
 
-// The numbers of the lists.
+// The lists by the numbers that the C interface, crepedum_lookup, takes; any other number is answered too.
 const FIRST_LIST: u32 = 1;
 
 const NATIVE_LIST: u32 = 2;

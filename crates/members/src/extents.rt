@@ -2,7 +2,6 @@
 ghost use Rattle.std.specs.Prelude.{◌≡◌, ◌++◌, ℕ, ◌≤◌, length};
 ghost use Rattle.format.specs.Layouts.{descriptor, null_descriptor, null_thunk, short, compat_stem, encode};
 ghost use Rattle.coff.specs.Import.{type_number};
-ghost use Rattle.coff.specs.Machines.{IsMachine};
 ghost use Rattle.members.specs.Members.{IsStem, weak_of};
 
 use crate::{EXPORT_AS, IMP_PREFIX};
@@ -52,8 +51,7 @@ pub fn null_descriptor_size(stem: &[u8], compat: bool) -> usize
 
 // A null thunk.
 pub fn thunk_size(machine: Machine, stem: &[u8]) -> usize
-    requires machine { IsMachine machine }
-    requires stem_len_bound { length stem.now ≤ 255 }
+    requires { length stem.now ≤ 255 }
     ensures { result ≡ length (encode (null_thunk machine.number stem.now)) }
 {
     NULL_THUNK + 2 * (widths::slot_size(machine) as usize) + stem.len()

@@ -9,7 +9,6 @@ ghost use Rattle.std.specs.Prelude.{◌≤◌, [], ◌∷◌, ◌++◌, length};
 ghost use Rattle.wire.specs.Writes.{Wrote};
 ghost use Rattle.format.specs.Layouts.{IMAGE-SCN-ALIGN-8BYTES, descriptor, null_descriptor, null_thunk, short, compat_stem, encode, thunk_name, null_thunk_bytes, weak_bytes};
 ghost use Rattle.coff.specs.Import.{kind_number, type_number};
-ghost use Rattle.coff.specs.Machines.{IsMachine};
 ghost use Rattle.members.specs.Members.{IsStem, weak_of};
 
 use coff::constants::{
@@ -45,7 +44,6 @@ pub fn create_import_descriptor(
     stem: &[u8],
     compat: bool,
 ) -> usize
-    requires machine { IsMachine machine }
     requires dll_len_bound { length dll.now ≤ 255 }
     requires stem { IsStem stem.now dll.now }
     ensures { Wrote out.old at (encode (descriptor machine.number dll.now compat)) out.new result }
@@ -76,8 +74,7 @@ pub fn create_null_import_descriptor(
     stem: &[u8],
     compat: bool,
 ) -> usize
-    requires machine { IsMachine machine }
-    requires stem_len_bound { length stem.now ≤ 255 }
+    requires { length stem.now ≤ 255 }
     ensures { Wrote out.old at (encode (null_descriptor machine.number (compat_stem compat stem.now))) out.new result }
 {
     let a = FileHeader {
@@ -111,8 +108,7 @@ pub fn create_null_import_descriptor(
 
 // A null thunk, which ends the import lookup and address tables.
 pub fn create_null_thunk(out: &mut [u8], at: usize, machine: Machine, stem: &[u8]) -> usize
-    requires machine { IsMachine machine }
-    requires stem_len_bound { length stem.now ≤ 255 }
+    requires { length stem.now ≤ 255 }
     ensures { Wrote out.old at (encode (null_thunk machine.number stem.now)) out.new result }
 {
     let slot = widths::slot_size(machine);
@@ -129,7 +125,6 @@ fn put_null_thunk(
     alignment: u32,
     stem: &[u8],
 ) -> usize
-    requires machine { IsMachine machine }
     requires slot_bound { (slot ≤ 8) × (alignment ≤ IMAGE-SCN-ALIGN-8BYTES) }
     requires stem_len_bound { length stem.now ≤ 255 }
     ensures { Wrote out.old at (null_thunk_bytes machine.number slot alignment (thunk_name stem.now)) out.new result }

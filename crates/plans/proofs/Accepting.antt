@@ -13,7 +13,6 @@ use Rattle.format.specs.Library.{Options}
 use Rattle.format.specs.Refusals.{refusal, Row, earliest, rows_from, machine_rows, list_rows, name_rows, export_rows, accept_rows, check_list, check_exports}
 use Rattle.format.specs.declared.Reason.TheVariants.{UnknownMachine}
 use Rattle.format.specs.declared.Refusal.{Refusal}
-use Rattle.coff.specs.Machines.{IsMachine}
 use Rattle.coff.specs.declared.machines.Machine.{Machine}
 use Rattle.plans.specs.Accepting.{AcceptedAs, taken, refused}
 use Rattle.format.proofs.Rows.{earliest-given, earliest-passed, earliest-append, and_then-stops, and_then-goes-on}
@@ -21,11 +20,11 @@ use Rattle.format.proofs.Rows.{earliest-given, earliest-passed, earliest-append,
 -- ---- a list that was accepted, or not
 
 module _ {o : Options} {b : Bytes} where
-  pub accepted-by : {r : Result Machine Refusal} {m : Machine} → r ≡ Ok m → AcceptedAs o b r → (check_exports o b ≡ Ok tt) × (m.number ≡ o.machine) × IsMachine m
+  pub accepted-by : {r : Result Machine Refusal} {m : Machine} → r ≡ Ok m → AcceptedAs o b r → (check_exports o b ≡ Ok tt) × (m.number ≡ o.machine)
   accepted-by e a = told (rw e at a)
     where
-      told : {m : Machine} → AcceptedAs o b (Ok m) → (check_exports o b ≡ Ok tt) × (m.number ≡ o.machine) × IsMachine m
-      told (taken f n is) = (f, n, is)
+      told : {m : Machine} → AcceptedAs o b (Ok m) → (check_exports o b ≡ Ok tt) × (m.number ≡ o.machine)
+      told (taken f n) = (f, n)
 
   pub refused-by : {r : Result Machine Refusal} {q : Refusal} → r ≡ Err q → AcceptedAs o b r → check_exports o b ≡ Err q
   refused-by e a = told (rw e at a)

@@ -183,14 +183,12 @@ gives-is s t w r e q = rw (← q) e
 
 -- the type of an export that names no other: its base is its name, or its symbol_name
 module _ (machine : ℕ) (mingw : Bool) (b : Bytes) (k : ℕ) {t : ℕ} {n : Bytes} where
-  pub plain-own : t ≡ plain_type machine mingw n n → n ≡ bytes_at b (field_at k 0) → absent_at b (field_at k 2) ≡ true
+  pub plain-own : t ≡ plain_type machine mingw n n → n ≡ (export_at b k).name → absent_at b (field_at k 2) ≡ true
       → t ≡ plain_type machine mingw (base (export_at b k)) (export_at b k).name
-  unfolding export_at
   plain-own p f a = p ∙ ap₂ (λ (x y : Bytes). plain_type machine mingw x y) (f ∙ base-name b k a) f
 
-  pub plain-both : {s : Bytes} → t ≡ plain_type machine mingw s n → s ≡ bytes_at b (field_at k 2) → n ≡ bytes_at b (field_at k 0) → absent_at b (field_at k 2) ≡ false
+  pub plain-both : {s : Bytes} → t ≡ plain_type machine mingw s n → s ≡ bytes_at b (field_at k 2) → n ≡ (export_at b k).name → absent_at b (field_at k 2) ≡ false
       → t ≡ plain_type machine mingw (base (export_at b k)) (export_at b k).name
-  unfolding export_at
   plain-both p f g a = p ∙ ap₂ (λ (x y : Bytes). plain_type machine mingw x y) (f ∙ base-symbol b k a) g
 
 pub mangled-by : {f g : Bool} (p x : Bytes) (t : ℕ) → g ≡ f → mangled f p t x ≡ mangled g p t x

@@ -2,7 +2,7 @@
 use Rattle.std.specs.Prelude.{if◌then◌else◌, Ok, Err}
 use Rattle.std.specs.Prelude as std
 use Prim.Native.Nat.{ℕ, ◌+◌, ◌≤◌, ◌<◌}
-use mathlib.Core.Path.{◌≡◌, refl, ◌∙◌}
+use mathlib.Core.Path.{◌≡◌, refl, sym, ◌∙◌}
 use mathlib.Core.Bool.{Bool, true, false}
 use mathlib.Core.Option.{Option, none, some, get_or}
 use mathlib.Core.List.{[], ◌∷◌}
@@ -23,7 +23,8 @@ use Rattle.names.specs.declared.built.BuiltName.{BuiltName}
 use Rattle.lists.specs.Held.{Held}
 use Rattle.plans.specs.Shape.{short_of, planned}
 use Rattle.plans.specs.declared.Short.{Short}
-use Rattle.plans.proofs.Choices.{string-some, string-none}
+use Rattle.lists.proofs.Records.{string-there}
+use Rattle.plans.proofs.Choices.{string-none}
 
 -- ---- the public name
 
@@ -31,21 +32,29 @@ pub public-base : (b : Bytes) (k : ℕ) → absent_at b (field_at k 1) ≡ true 
 unfolding public_name renamed export_at
 public-base b k a = rw (string-none b (field_at k 1) a)
 
-public-renamed : (b : Bytes) (k : ℕ) {s n x : Bytes} → absent_at b (field_at k 1) ≡ false → s ≡ base (export_at b k) → n ≡ bytes_at b (field_at k 0)
-    → x ≡ bytes_at b (field_at k 1) → replace s n x ≡ public_name (export_at b k)
+-- an ext_name that is there
+pub ext_name-is : (b : Bytes) (k : ℕ) {x : Bytes} → some x ≡ string_at b (field_at k 1) → (absent_at b (field_at k 1) ≡ false) × (x ≡ bytes_at b (field_at k 1))
+ext_name-is b k e = string-there b (field_at k 1) (sym e)
+
+public-renamed : (b : Bytes) (k : ℕ) {s n x : Bytes} → some x ≡ string_at b (field_at k 1) → s ≡ base (export_at b k) → n ≡ (export_at b k).name
+    → replace s n x ≡ public_name (export_at b k)
 unfolding public_name renamed export_at
-public-renamed b k a e f g = rw (string-some b (field_at k 1) a, ← e, ← f, ← g) refl
+public-renamed b k a e f = rw (← a, ← e, ← f) refl
 
 -- by what replacing answers
-pub renamed-by : (b : Bytes) (k : ℕ) {s n x : Bytes} {r : std.Option BuiltName} → absent_at b (field_at k 1) ≡ false → s ≡ base (export_at b k) → n ≡ bytes_at b (field_at k 0)
-    → x ≡ bytes_at b (field_at k 1) → Renamed (replace s n x) r → Renamed (public_name (export_at b k)) r
-renamed-by b k a e f g h = record { name = h.name ∙ public-renamed b k a e f g; fits = h.fits }
+pub renamed-by : (b : Bytes) (k : ℕ) {s n x : Bytes} {r : std.Option BuiltName} → some x ≡ string_at b (field_at k 1) → s ≡ base (export_at b k) → n ≡ (export_at b k).name
+    → Renamed (replace s n x) r → Renamed (public_name (export_at b k)) r
+renamed-by b k a e f h = record { name = h.name ∙ public-renamed b k a e f; fits = h.fits }
 
 -- ---- how long a record's strings are
 
 pub string-length : (b : Bytes) (k f : ℕ) → Held b k → f < 5 → length (bytes_at b (field_at k f)) ≡ length_of b (field_at k f)
 unfolding bytes_at
 string-length b k f h g = length-part b (names_at b + offset_of b (field_at k f)) (length_of b (field_at k f)) (h.strings f g)
+
+pub name-length : (b : Bytes) (k : ℕ) → Held b k → length (export_at b k).name ≡ length_of b (field_at k 0)
+unfolding export_at
+name-length b k h = string-length b k 0 h (omega arith)
 
 pub base-length : (b : Bytes) (k : ℕ) → Held b k → length (base (export_at b k)) ≤ 4095
 unfolding export_at string_at

@@ -5,19 +5,17 @@ ghost use Rattle.format.specs.Machines.{arm64ec};
 ghost use Rattle.format.specs.Exports.{export_at};
 ghost use Rattle.format.specs.Plan.{plan_public};
 ghost use Rattle.format.specs.Library.{answers_to};
-ghost use Rattle.lists.specs.Held.{Held};
 ghost use Rattle.plans.specs.Keys.{key_at};
 
 use crate::{gives, plan, public};
-use lists::record;
+use lists::record::Record;
 
 // Whether the import of a record under its public name has the wanted key.
-fn key_named(b: &[u8], k: u32, machine: u16, mingw: bool, public: &[u8], wanted: &[u8]) -> bool
-    requires held { Held b.now k }
-    requires not_arm64ec { machine ≡ arm64ec → ⊥ }
-    ensures { result ≡ answers_to wanted.now (plan_public machine mingw (export_at b.now k) (some public.now)) }
+fn key_named(r: Record, machine: u16, mingw: bool, public: &[u8], wanted: &[u8]) -> bool
+    requires { machine ≡ arm64ec → ⊥ }
+    ensures { result ≡ answers_to wanted.now (plan_public machine mingw (export_at r.entry.list.now r.entry.index) (some public.now)) }
 {
-    match plan(b, k, machine, mingw, public) {
+    match plan(r, machine, mingw, public) {
         Ok(Some(short)) => gives(short.name_type, public, wanted),
         Ok(None) => false,
         Err(_) => false,
@@ -25,19 +23,18 @@ fn key_named(b: &[u8], k: u32, machine: u16, mingw: bool, public: &[u8], wanted:
 }
 
 // Whether the import of a record has the wanted key; that of a private one has none.
-pub fn key_is(b: &[u8], k: u32, machine: u16, mingw: bool, wanted: &[u8]) -> bool
-    requires held { Held b.now k }
-    requires not_arm64ec { machine ≡ arm64ec → ⊥ }
-    ensures { result ≡ key_at machine mingw b.now wanted.now k }
+pub fn key_is(r: Record, machine: u16, mingw: bool, wanted: &[u8]) -> bool
+    requires { machine ≡ arm64ec → ⊥ }
+    ensures { result ≡ key_at machine mingw r.entry.list.now wanted.now r.entry.index }
 {
-    if record::is_private(b, k) {
+    if r.is_private() {
         return false;
     }
-    if record::absent(b, k, record::EXT_NAME) {
-        return key_named(b, k, machine, mingw, record::base(b, k), wanted);
-    }
-    let Some(name) = public::renamed(b, k) else {
+    let Some(ext_name) = r.ext_name() else {
+        return key_named(r, machine, mingw, r.base(), wanted);
+    };
+    let Some(name) = public::renamed(r, ext_name) else {
         return false;
     };
-    key_named(b, k, machine, mingw, name.as_slice(), wanted)
+    key_named(r, machine, mingw, name.as_slice(), wanted)
 }

@@ -13,13 +13,12 @@ ghost use Rattle.format.specs.Exports.{Export, export_at};
 ghost use Rattle.format.specs.Names.{apply, plain_type};
 ghost use Rattle.format.specs.Plan.{typed, base, free, choose_import, choose, mangled, plan_choice, plan_public};
 ghost use Rattle.coff.specs.Import.{type_number};
-ghost use Rattle.lists.specs.Held.{Held};
 ghost use Rattle.plans.specs.Shape.{source_of, other_import, choice_of, short_of, short_or_refused, planned};
 
 use coff::constants::{IMAGE_FILE_MACHINE_ARM64EC, IMAGE_FILE_MACHINE_I386};
 use coff::import::{ImportNameType, ImportType};
 use format::Reason;
-use lists::record;
+use lists::record::Record;
 use names::mangler::Mangling;
 use names::{mangler, types};
 
@@ -103,44 +102,37 @@ fn choose_import(machine: u16, public: &[u8], wanted: &[u8]) -> Option<Typed>
 }
 
 // The type of an export that names no other. Where it has no symbol_name its base is its name, and nothing is compared.
-fn plain_type(b: &[u8], k: u32, machine: u16, mingw: bool) -> ImportNameType
-    requires { Held b.now k }
-    ensures { type_number result ≡ plain_type machine mingw (base (export_at b.now k)) (export_at b.now k).name }
+fn plain_type(r: Record, machine: u16, mingw: bool) -> ImportNameType
+    ensures { type_number result ≡ plain_type machine mingw (base (export_at r.entry.list.now r.entry.index)) (export_at r.entry.list.now r.entry.index).name }
 {
-    let name = record::string(b, k, record::NAME);
-    if record::absent(b, k, record::SYMBOL_NAME) {
+    let name = r.name();
+    let Some(symbol_name) = r.symbol_name() else {
         return types::get_own_type(name, machine, mingw);
-    }
-    types::get_name_type(
-        record::string(b, k, record::SYMBOL_NAME),
-        name,
-        machine,
-        mingw,
-    )
+    };
+    types::get_name_type(symbol_name, name, machine, mingw)
 }
 
 // The choice of an export under its public name.
-fn choose(b: &[u8], k: u32, machine: u16, mingw: bool, public: &[u8]) -> Option<Typed>
-    requires { Held b.now k }
-    ensures { choice_of (export_at b.now k) public.now result ≡ choose machine mingw (export_at b.now k) public.now }
+fn choose(r: Record, machine: u16, mingw: bool, public: &[u8]) -> Option<Typed>
+    ensures { choice_of (export_at r.entry.list.now r.entry.index) public.now result ≡ choose machine mingw (export_at r.entry.list.now r.entry.index) public.now }
 {
-    if record::is_noname(b, k) {
+    if r.is_noname() {
         return Some(Typed {
             name_type: ImportNameType::Ordinal,
             export: Source::Nothing,
         });
     }
-    if !record::absent(b, k, record::EXPORT_AS) {
+    if r.export_as().is_some() {
         return Some(Typed {
             name_type: ImportNameType::NameExportas,
             export: Source::ExportAs,
         });
     }
-    if !record::absent(b, k, record::IMPORT_NAME) {
-        return choose_import(machine, public, record::string(b, k, record::IMPORT_NAME));
+    if let Some(import_name) = r.import_name() {
+        return choose_import(machine, public, import_name);
     }
     Some(Typed {
-        name_type: plain_type(b, k, machine, mingw),
+        name_type: plain_type(r, machine, mingw),
         export: Source::Nothing,
     })
 }
@@ -199,18 +191,11 @@ fn mangle_set(public: &[u8], choice: Typed) -> Short
 }
 
 // The plan of a typed choice.
-fn short_typed(
-    b: &[u8],
-    k: u32,
-    machine: u16,
-    public: &[u8],
-    choice: Typed,
-) -> Result<Short, Reason>
-    requires { Held b.now k }
-    ensures { short_or_refused (export_at b.now k) public.now result ≡ plan_choice machine (export_at b.now k) public.now (typed (type_number choice.name_type) (source_of (export_at b.now k) public.now choice.«export»)) }
+fn short_typed(r: Record, machine: u16, public: &[u8], choice: Typed) -> Result<Short, Reason>
+    ensures { short_or_refused (export_at r.entry.list.now r.entry.index) public.now result ≡ plan_choice machine (export_at r.entry.list.now r.entry.index) public.now (typed (type_number choice.name_type) (source_of (export_at r.entry.list.now r.entry.index) public.now choice.«export»)) }
 {
     if machine == IMAGE_FILE_MACHINE_ARM64EC {
-        if let ImportType::Code = record::import_type(b, k) {
+        if let ImportType::Code = r.import_type() {
             if is_free(choice.name_type) {
                 return mangle_free(public);
             }
@@ -226,22 +211,15 @@ fn short_typed(
 
 // The plan of an export under its public name: a short import that is written at once, or none where the export is deferred; or why it is
 // refused.
-pub fn plan(
-    b: &[u8],
-    k: u32,
-    machine: u16,
-    mingw: bool,
-    public: &[u8],
-) -> Result<Option<Short>, Reason>
-    requires { Held b.now k }
-    ensures { planned (export_at b.now k) public.now result ≡ plan_public machine mingw (export_at b.now k) (some public.now) }
+pub fn plan(r: Record, machine: u16, mingw: bool, public: &[u8]) -> Result<Option<Short>, Reason>
+    ensures { planned (export_at r.entry.list.now r.entry.index) public.now result ≡ plan_public machine mingw (export_at r.entry.list.now r.entry.index) (some public.now) }
 {
     if public.len() == 0 {
         return Err(Reason::NoPublicName);
     }
-    let Some(choice) = choose(b, k, machine, mingw, public) else {
+    let Some(choice) = choose(r, machine, mingw, public) else {
         return Ok(None);
     };
-    let short = short_typed(b, k, machine, public, choice)?;
+    let short = short_typed(r, machine, public, choice)?;
     Ok(Some(short))
 }

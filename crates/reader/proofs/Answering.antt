@@ -1,5 +1,5 @@
 -- What is answered for a member, by whether it is admitted and where looking for its bytes ends.
-use Rattle.std.specs.Prelude.{if◌then◌else◌, Result, Ok, Err}
+use Rattle.std.specs.Prelude.{if◌then◌else◌, Ok, Err}
 use Prim.Native.Nat.{ℕ, ◌+◌, ◌*◌, ◌/◌, ◌%◌, ◌≤◌, ◌<◌}
 use mathlib.Core.Path.{◌≡◌, refl, sym, ap, ◌∙◌}
 use mathlib.Core.Bool.{Bool, true, false, ◌&&◌, not}
@@ -19,7 +19,6 @@ use Rattle.format.specs.Layouts.{Member, descriptor, null_descriptor, null_thunk
 use Rattle.format.specs.Reader.{between, admits_dll, admits_stem, admits_export, ordinary, admits, thunk_strings_at, weak_strings_at, right, span, absent, stem_span, fields, fields_or_refused}
 use Rattle.format.specs.Refusals.{refusal}
 use Rattle.format.specs.declared.Reason.TheVariants.{NotAMember}
-use Rattle.format.specs.declared.Refusal.{Refusal}
 use Rattle.format.specs.declared.Read.{Read}
 use Rattle.format.specs.declared.Read.TheVariants.{Descriptor, NullDescriptor, NullThunk, ShortImport, WeakExternal}
 use Rattle.laws.proofs.ReadBack.{between-true}

@@ -1,5 +1,5 @@
 -- What the reader answers for a member that the bytes may be, and for a machine.
-use Rattle.std.specs.Prelude.{ℕ, ◌≡◌, Bool, true, false, ◌&&◌, not, eqb, leb, if◌then◌else◌, Result, Option, None, Some}
+use Rattle.std.specs.Prelude.{ℕ, ◌≡◌, Bool, true, false, ◌&&◌, not, eqb, leb, if◌then◌else◌, Result, Option, MatchOption}
 use Rattle.std.proofs.Math.Option.{none, some}
 use Rattle.wire.specs.Bytes.{Bytes, u16_at, holds}
 use Rattle.format.specs.Machines.{known, arm64x}
@@ -7,7 +7,6 @@ use Rattle.format.specs.Layouts.{Member}
 use Rattle.format.specs.Reader.{max_symbol, between, admits_dll, ordinary, descriptor_guess, null_guess, thunk_guess, weak_guess, right, fields_or_refused}
 use Rattle.format.specs.declared.Read.{Read}
 use Rattle.format.specs.declared.Refusal.{Refusal}
-use Rattle.coff.specs.Machines.{IsMachine, row_of}
 use Rattle.coff.specs.declared.machines.Machine.{Machine}
 
 -- the fields of the member where the bytes are its bytes and it is admitted, else the refusal
@@ -20,14 +19,13 @@ Clear s = holds 0 s ≡ false
 
 -- ---- machines and layouts
 
--- the row of a number, unless it is a hybrid's
-unfoldable pub ordinary_of : ℕ → Option Machine
-ordinary_of n = if ordinary n then Some (row_of n) else None
-
 -- a machine of the table and no hybrid
-pub record Ordinary (m : Machine) : Type 0 where
-  pub machine : IsMachine m
-  pub ordinary : ordinary m.number ≡ true
+abbrev pub Ordinary : Machine → Type 0
+Ordinary m = ordinary m.number ≡ true
+
+-- the machine of a number; none exactly where the number is not known or is a hybrid's
+abbrev pub OrdinaryOf : ℕ → Option Machine → Type 0
+OrdinaryOf n r = MatchOption r (ordinary n ≡ false) (λ m. (m.number ≡ n) × Ordinary m)
 
 -- its number stands first in the bytes
 abbrev pub First : Machine → Bytes → Type 0

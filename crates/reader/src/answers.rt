@@ -4,7 +4,6 @@ ghost use Rattle.std.specs.Prelude.{◌+◌, ◌/◌, ◌%◌, ◌≤◌, ◌≡
 ghost use Rattle.std.proofs.Math.Option.{none, some};
 ghost use Rattle.format.specs.Layouts.{import_header_size, descriptor, null_descriptor, null_thunk, short, weak};
 ghost use Rattle.format.specs.Reader.{ordinary, admits_dll, text_at, thunk_strings_at, weak_strings_at};
-ghost use Rattle.coff.specs.Machines.{IsMachine};
 ghost use Rattle.members.specs.Members.{IsStem};
 ghost use Rattle.reader.specs.Answers.{answer, Clear, Ordinary, admits_types};
 
@@ -109,7 +108,6 @@ pub fn as_null_descriptor_of(b: &[u8], machine: Machine, stem: &[u8]) -> Result<
 
 // Where the name of a null thunk stands.
 pub fn thunk_strings_at(machine: Machine) -> usize
-    requires { IsMachine machine }
     ensures { (result ≡ thunk_strings_at machine.number) × (result ≤ 138) }
 {
     let slot = widths::slot_size(machine) as usize;

@@ -1,7 +1,7 @@
 // Names in bytes, and which names and machines are admitted.
 ghost use Rattle.std.specs.Prelude.{◌≡◌};
 ghost use Rattle.format.specs.Reader.{between, admits_dll, text_at};
-ghost use Rattle.reader.specs.Answers.{Clear, ordinary_of, admits_names, admits_types};
+ghost use Rattle.reader.specs.Answers.{Clear, OrdinaryOf, admits_names, admits_types};
 
 use coff::constants::IMAGE_FILE_MACHINE_ARM64X;
 use coff::machines;
@@ -65,19 +65,20 @@ pub fn admits_names(symbol: &[u8], dll: &[u8]) -> bool
 
 // The machine of a number, unless it is ARM64EC or ARM64X.
 pub fn ordinary_machine(number: u16) -> Option<Machine>
-    ensures { result ≡ ordinary_of number }
+    ensures { OrdinaryOf number result }
 {
     if machines::is_arm64ec(number) {
         return None;
     }
-    machines::find_machine(number as u32)
+    Machine::find(number as u32)
 }
 
 // Whether a short import may have a machine, a kind and a name type.
+#[tactic(auto, unfolding(crate::specs::Answers::admits_types))]
 pub fn admits_types(machine: u16, kind: u16, name_type: u16) -> bool
     ensures { result ≡ admits_types machine kind name_type }
 {
-    let Some(_) = machines::find_machine(machine as u32) else {
+    let Some(_) = Machine::find(machine as u32) else {
         return false;
     };
     if machine == IMAGE_FILE_MACHINE_ARM64X {

@@ -3,7 +3,6 @@
 ghost use Rattle.std.specs.Prelude.{◌≡◌, [], ◌∷◌, ◌++◌, ◌+◌, ◌≤◌, ◌<◌, length};
 ghost use Rattle.format.specs.Layouts.{null_thunk, descriptor, null_descriptor, compat_stem, short};
 ghost use Rattle.coff.specs.Import.{kind_number, type_number};
-ghost use Rattle.coff.specs.Machines.{IsMachine};
 ghost use Rattle.members.specs.Members.{IsStem, weak_of};
 ghost use Rattle.walks.specs.Pen.{entry_of, at_of, Room, Drew, Noted, fixed_of};
 
@@ -118,7 +117,6 @@ fn draw_descriptor(
     compat: bool,
 ) -> u64
     requires room { Room (entry_of pen) (at_of pen) (descriptor machine.number dll.now compat ∷ []) }
-    requires machine { IsMachine machine }
     requires dll_len_bound { (length dll.now ≤ 255) × IsStem stem.now dll.now }
     ensures { Drew out.old (entry_of pen) (at_of pen) (descriptor machine.number dll.now compat ∷ []) out.new (entry_of result) (at_of result) }
 {
@@ -140,7 +138,6 @@ fn draw_null_descriptor(
     compat: bool,
 ) -> u64
     requires room { Room (entry_of pen) (at_of pen) (null_descriptor machine.number (compat_stem compat stem.now) ∷ []) }
-    requires machine { IsMachine machine }
     requires stem_len_bound { length stem.now ≤ 255 }
     ensures { Drew out.old (entry_of pen) (at_of pen) (null_descriptor machine.number (compat_stem compat stem.now) ∷ []) out.new (entry_of result) (at_of result) }
 {
@@ -156,7 +153,6 @@ fn draw_null_descriptor(
 // The null thunk.
 fn draw_thunk(out: &mut [u8], pen: u64, machine: Machine, stem: &[u8]) -> u64
     requires room { Room (entry_of pen) (at_of pen) (null_thunk machine.number stem.now ∷ []) }
-    requires machine { IsMachine machine }
     requires stem_len_bound { length stem.now ≤ 255 }
     ensures { Drew out.old (entry_of pen) (at_of pen) (null_thunk machine.number stem.now ∷ []) out.new (entry_of result) (at_of result) }
 {
@@ -179,7 +175,6 @@ pub fn draw_fixed(
     compat: bool,
 ) -> u64
     requires room { Room (entry_of pen) (at_of pen) (fixed_of machine.number dll.now compat) }
-    requires machine { IsMachine machine }
     requires dll_len_bound { (length dll.now ≤ 255) × IsStem stem.now dll.now }
     ensures { Drew out.old (entry_of pen) (at_of pen) (fixed_of machine.number dll.now compat) out.new (entry_of result) (at_of result) }
 {

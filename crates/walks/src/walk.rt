@@ -9,7 +9,6 @@ ghost use Rattle.format.specs.Plan.{kind, public_name, plan_public};
 ghost use Rattle.format.specs.Library.{alias_members, alias_or_short, last_answering, members_of};
 ghost use Rattle.format.specs.Refusals.{check_list};
 ghost use Rattle.coff.specs.Import.{kind_number, type_number};
-ghost use Rattle.lists.specs.Held.{Held};
 ghost use Rattle.plans.specs.Shape.{source_of};
 ghost use Rattle.keys.specs.Targets.{Resolved};
 ghost use Rattle.walks.specs.Pen.{entry_of, at_of, Room, Drew};
@@ -19,7 +18,7 @@ use crate::pen::{draw_short, draw_weak};
 use coff::constants::IMAGE_FILE_MACHINE_ARM64EC;
 use coff::import::{ImportNameType, ImportType};
 use keys::NO_TARGET;
-use lists::record;
+use lists::record::Record;
 use names::mangler;
 use names::mangler::Demangled;
 use plans::{Short, Source, plan, public};
@@ -28,8 +27,7 @@ use plans::{Short, Source, plan, public};
 fn draw_import(
     out: &mut [u8],
     pen: u64,
-    b: &[u8],
-    k: u32,
+    r: Record,
     sym: &[u8],
     dll: &[u8],
     name_type: ImportNameType,
@@ -37,13 +35,12 @@ fn draw_import(
     tail: &[u8],
     machine: u16,
 ) -> u64
-    requires room { Room (entry_of pen) (at_of pen) (import_of machine (export_at b.now k) (type_number name_type) sym.now dll.now (head.now ++ tail.now) ∷ []) }
-    requires held { Held b.now k }
+    requires room { Room (entry_of pen) (at_of pen) (import_of machine (export_at r.list.now r.index) (type_number name_type) sym.now dll.now (head.now ++ tail.now) ∷ []) }
     requires sym_len_bound { ((length sym.now ≤ 65536) × (length dll.now ≤ 65536)) × ((length head.now ≤ 65536) × (length tail.now ≤ 65536)) }
-    ensures { Drew out.old (entry_of pen) (at_of pen) (import_of machine (export_at b.now k) (type_number name_type) sym.now dll.now (head.now ++ tail.now) ∷ []) out.new (entry_of result) (at_of result) }
+    ensures { Drew out.old (entry_of pen) (at_of pen) (import_of machine (export_at r.entry.list.now r.entry.index) (type_number name_type) sym.now dll.now (head.now ++ tail.now) ∷ []) out.new (entry_of result) (at_of result) }
 {
-    let ordinal = record::ordinal(b, k);
-    let import_type = record::import_type(b, k);
+    let ordinal = r.ordinal();
+    let import_type = r.import_type();
     draw_short(
         out,
         pen,
@@ -62,32 +59,30 @@ fn draw_import(
 fn draw_demangled(
     out: &mut [u8],
     pen: u64,
-    b: &[u8],
-    k: u32,
+    r: Record,
     sym: &[u8],
     dll: &[u8],
     name_type: ImportNameType,
     public: &[u8],
     machine: u16,
 ) -> u64
-    requires room { Room (entry_of pen) (at_of pen) (import_of machine (export_at b.now k) (type_number name_type) sym.now dll.now (get_or (demangle public.now) []) ∷ []) }
-    requires held { Held b.now k }
+    requires room { Room (entry_of pen) (at_of pen) (import_of machine (export_at r.list.now r.index) (type_number name_type) sym.now dll.now (get_or (demangle public.now) []) ∷ []) }
     requires sym_len_bound { (length sym.now ≤ 65536) × (length dll.now ≤ 65536) × (length public.now ≤ 65536) }
-    ensures { Drew out.old (entry_of pen) (at_of pen) (import_of machine (export_at b.now k) (type_number name_type) sym.now dll.now (get_or (demangle public.now) []) ∷ []) out.new (entry_of result) (at_of result) }
+    ensures { Drew out.old (entry_of pen) (at_of pen) (import_of machine (export_at r.entry.list.now r.entry.index) (type_number name_type) sym.now dll.now (get_or (demangle public.now) []) ∷ []) out.new (entry_of result) (at_of result) }
 {
     let n = public.len();
     match mangler::get_arm64ec_demangled_function_name(public) {
         Some(Demangled::Dropped) => {
             let rest = wire::part(public, 1, n - 1);
-            draw_import(out, pen, b, k, sym, dll, name_type, rest, b"", machine)
+            draw_import(out, pen, r, sym, dll, name_type, rest, b"", machine)
         }
         Some(Demangled::Cut { at }) => {
             let after = at + mangler::TAG_LEN;
             let head = wire::part(public, 0, at);
             let tail = wire::part(public, after, n - after);
-            draw_import(out, pen, b, k, sym, dll, name_type, head, tail, machine)
+            draw_import(out, pen, r, sym, dll, name_type, head, tail, machine)
         }
-        None => draw_import(out, pen, b, k, sym, dll, name_type, b"", b"", machine),
+        None => draw_import(out, pen, r, sym, dll, name_type, b"", b"", machine),
     }
 }
 
@@ -95,8 +90,7 @@ fn draw_demangled(
 fn draw_source(
     out: &mut [u8],
     pen: u64,
-    b: &[u8],
-    k: u32,
+    r: Record,
     sym: &[u8],
     dll: &[u8],
     name_type: ImportNameType,
@@ -104,39 +98,36 @@ fn draw_source(
     public: &[u8],
     machine: u16,
 ) -> u64
-    requires room { Room (entry_of pen) (at_of pen) (import_of machine (export_at b.now k) (type_number name_type) sym.now dll.now (source_of (export_at b.now k) public.now «export») ∷ []) }
-    requires held { Held b.now k }
+    requires room { Room (entry_of pen) (at_of pen) (import_of machine (export_at r.list.now r.index) (type_number name_type) sym.now dll.now (source_of (export_at r.list.now r.index) public.now «export») ∷ []) }
     requires sym_len_bound { (length sym.now ≤ 65536) × (length dll.now ≤ 65536) × (length public.now ≤ 65536) }
-    ensures { Drew out.old (entry_of pen) (at_of pen) (import_of machine (export_at b.now k) (type_number name_type) sym.now dll.now (source_of (export_at b.now k) public.now «export») ∷ []) out.new (entry_of result) (at_of result) }
+    ensures { Drew out.old (entry_of pen) (at_of pen) (import_of machine (export_at r.entry.list.now r.entry.index) (type_number name_type) sym.now dll.now (source_of (export_at r.entry.list.now r.entry.index) public.now «export») ∷ []) out.new (entry_of result) (at_of result) }
 {
     match export {
-        Source::Nothing => draw_import(out, pen, b, k, sym, dll, name_type, b"", b"", machine),
+        Source::Nothing => draw_import(out, pen, r, sym, dll, name_type, b"", b"", machine),
         Source::ExportAs => draw_import(
             out,
             pen,
-            b,
-            k,
+            r,
             sym,
             dll,
             name_type,
-            record::string(b, k, record::EXPORT_AS),
+            r.export_as().unwrap_or(b""),
             b"",
             machine,
         ),
         Source::ImportName => draw_import(
             out,
             pen,
-            b,
-            k,
+            r,
             sym,
             dll,
             name_type,
-            record::string(b, k, record::IMPORT_NAME),
+            r.import_name().unwrap_or(b""),
             b"",
             machine,
         ),
-        Source::Public => draw_import(out, pen, b, k, sym, dll, name_type, public, b"", machine),
-        Source::Demangled => draw_demangled(out, pen, b, k, sym, dll, name_type, public, machine),
+        Source::Public => draw_import(out, pen, r, sym, dll, name_type, public, b"", machine),
+        Source::Demangled => draw_demangled(out, pen, r, sym, dll, name_type, public, machine),
     }
 }
 
@@ -144,24 +135,21 @@ fn draw_source(
 fn draw_final(
     out: &mut [u8],
     pen: u64,
-    b: &[u8],
-    k: u32,
+    r: Record,
     dll: &[u8],
     short: Short,
     public: &[u8],
     machine: u16,
 ) -> u64
-    requires room { Room (entry_of pen) (at_of pen) (import_of machine (export_at b.now k) (type_number short.name_type) (if short.hashed then hash ∷ public.now else public.now) dll.now (source_of (export_at b.now k) public.now short.«export») ∷ []) }
-    requires held { Held b.now k }
+    requires room { Room (entry_of pen) (at_of pen) (import_of machine (export_at r.list.now r.index) (type_number short.name_type) (if short.hashed then hash ∷ public.now else public.now) dll.now (source_of (export_at r.list.now r.index) public.now short.«export») ∷ []) }
     requires dll_len_bound { (length dll.now ≤ 255) × (length public.now ≤ 8189) }
-    ensures { Drew out.old (entry_of pen) (at_of pen) (import_of machine (export_at b.now k) (type_number short.name_type) (if short.hashed then hash ∷ public.now else public.now) dll.now (source_of (export_at b.now k) public.now short.«export») ∷ []) out.new (entry_of result) (at_of result) }
+    ensures { Drew out.old (entry_of pen) (at_of pen) (import_of machine (export_at r.entry.list.now r.entry.index) (type_number short.name_type) (if short.hashed then hash ∷ public.now else public.now) dll.now (source_of (export_at r.entry.list.now r.entry.index) public.now short.«export») ∷ []) out.new (entry_of result) (at_of result) }
 {
     if !short.hashed {
         return draw_source(
             out,
             pen,
-            b,
-            k,
+            r,
             public,
             dll,
             short.name_type,
@@ -174,8 +162,7 @@ fn draw_final(
     draw_source(
         out,
         pen,
-        b,
-        k,
+        r,
         name.as_slice(),
         dll,
         short.name_type,
@@ -209,30 +196,21 @@ fn draw_alias(
 fn draw_alias_to(
     out: &mut [u8],
     pen: u64,
-    b: &[u8],
-    k: u32,
-    other: u32,
+    r: Record,
+    other: Record,
     public: &[u8],
     machine: u16,
 ) -> u64
-    requires room { Room (entry_of pen) (at_of pen) (alias_members machine (kind (export_at b.now k)) (get_or (public_name (export_at b.now other)) []) public.now) }
-    requires held { Held b.now k × Held b.now other }
-    requires other_value { is_some (public_name (export_at b.now other)) ≡ true }
+    requires room { Room (entry_of pen) (at_of pen) (alias_members machine (kind (export_at r.list.now r.index)) (get_or (public_name (export_at other.list.now other.index)) []) public.now) }
+    requires other_value { is_some (public_name (export_at other.list.now other.index)) ≡ true }
     requires public_len_bound { length public.now ≤ 8189 }
-    ensures { Drew out.old (entry_of pen) (at_of pen) (alias_members machine (kind (export_at b.now k)) (get_or (public_name (export_at b.now other)) []) public.now) out.new (entry_of result) (at_of result) }
+    ensures { Drew out.old (entry_of pen) (at_of pen) (alias_members machine (kind (export_at r.entry.list.now r.entry.index)) (get_or (public_name (export_at other.entry.list.now other.entry.index)) []) public.now) out.new (entry_of result) (at_of result) }
 {
-    let import_type = record::import_type(b, k);
-    if record::absent(b, other, record::EXT_NAME) {
-        return draw_alias(
-            out,
-            pen,
-            import_type,
-            record::base(b, other),
-            public,
-            machine,
-        );
-    }
-    let name = public::renamed(b, other).unwrap();
+    let import_type = r.import_type();
+    let Some(ext_name) = other.ext_name() else {
+        return draw_alias(out, pen, import_type, other.base(), public, machine);
+    };
+    let name = public::renamed(other, ext_name).unwrap();
     draw_alias(out, pen, import_type, name.as_slice(), public, machine)
 }
 
@@ -240,8 +218,7 @@ fn draw_alias_to(
 fn draw_deferred(
     out: &mut [u8],
     pen: u64,
-    b: &[u8],
-    k: u32,
+    r: Record,
     dll: &[u8],
     public: &[u8],
     machine: u16,
@@ -250,40 +227,32 @@ fn draw_deferred(
     to: u32,
     targets: &[u16],
 ) -> u64
-    requires room { Room (entry_of pen) (at_of pen) (alias_or_short machine mingw dll.now (export_at b.now k) public.now (bytes_at b.now (field_at k 3)) (last_answering machine mingw (bytes_at b.now (field_at k 3)) (exports_from b.now from (to - from)))) }
-    requires held { Held b.now k }
-    requires b_value { check_list b.now ≡ Ok tt }
+    requires room { Room (entry_of pen) (at_of pen) (alias_or_short machine mingw dll.now (export_at r.list.now r.index) public.now (bytes_at r.list.now (field_at r.index 3)) (last_answering machine mingw (bytes_at r.list.now (field_at r.index 3)) (exports_from r.list.now from (to - from)))) }
+    requires b_value { check_list r.list.now ≡ Ok tt }
     requires not_arm64ec { machine ≡ arm64ec → ⊥ }
-    requires from_le_k { (from ≤ k) × (k < to) × (to ≤ both_counts b.now) }
+    requires from_le_k { (from ≤ r.index) × (r.index < to) × (to ≤ both_counts r.list.now) }
     requires dll_len_bound { (length dll.now ≤ 255) × (length public.now ≤ 8189) }
-    requires resolved { Resolved machine mingw b.now from (to - from) targets.now }
-    requires k_value { absent_at b.now (field_at k 3) ≡ false }
-    ensures { Drew out.old (entry_of pen) (at_of pen) (alias_or_short machine mingw dll.now (export_at b.now k) public.now (bytes_at b.now (field_at k 3)) (last_answering machine mingw (bytes_at b.now (field_at k 3)) (exports_from b.now from (to - from)))) out.new (entry_of result) (at_of result) }
+    requires resolved { Resolved machine mingw r.list.now from (to - from) targets.now }
+    requires k_value { absent_at r.list.now (field_at r.index 3) ≡ false }
+    ensures { Drew out.old (entry_of pen) (at_of pen) (alias_or_short machine mingw dll.now (export_at r.entry.list.now r.entry.index) public.now (bytes_at r.entry.list.now (field_at r.entry.index 3)) (last_answering machine mingw (bytes_at r.entry.list.now (field_at r.entry.index 3)) (exports_from r.entry.list.now from (to - from)))) out.new (entry_of result) (at_of result) }
 {
-    let wanted = record::string(b, k, record::IMPORT_NAME);
-    let other = targets[k as usize];
-    if other == NO_TARGET {
-        return draw_import(
-            out,
-            pen,
-            b,
-            k,
-            public,
-            dll,
-            ImportNameType::NameExportas,
-            wanted,
-            b"",
-            machine,
-        );
+    let wanted = r.import_name().unwrap();
+    let target = targets[r.index as usize];
+    if target == NO_TARGET {
+        let name_type = ImportNameType::NameExportas;
+        return draw_import(out, pen, r, public, dll, name_type, wanted, b"", machine);
     }
-    draw_alias_to(out, pen, b, k, other as u32, public, machine)
+    let other = Record {
+        list: r.list,
+        index: target as u32,
+    };
+    draw_alias_to(out, pen, r, other, public, machine)
 }
 
 // Whether the import of a record under its public name is written at once and without an export string, whatever its type: its size
 // needs no plan.
-fn is_direct(b: &[u8], k: u32, machine: u16, public: &[u8]) -> bool
-    requires { Held b.now k }
-    ensures { result ≡ direct machine (export_at b.now k) public.now }
+fn is_direct(r: Record, machine: u16, public: &[u8]) -> bool
+    ensures { result ≡ direct machine (export_at r.entry.list.now r.entry.index) public.now }
 {
     if machine == IMAGE_FILE_MACHINE_ARM64EC {
         return false;
@@ -291,18 +260,17 @@ fn is_direct(b: &[u8], k: u32, machine: u16, public: &[u8]) -> bool
     if public.len() == 0 {
         return false;
     }
-    if !record::absent(b, k, record::EXPORT_AS) {
+    if r.export_as().is_some() {
         return false;
     }
-    record::absent(b, k, record::IMPORT_NAME)
+    r.import_name().is_none()
 }
 
 // What is written of a record under its public name, at once or later.
 fn draw_named(
     out: &mut [u8],
     pen: u64,
-    b: &[u8],
-    k: u32,
+    r: Record,
     dll: &[u8],
     public: &[u8],
     machine: u16,
@@ -312,23 +280,21 @@ fn draw_named(
     later: bool,
     targets: &[u16],
 ) -> u64
-    requires room { Room (entry_of pen) (at_of pen) (drawn later machine mingw dll.now (exports_from b.now from (to - from)) (export_at b.now k) (plan_public machine mingw (export_at b.now k) (some public.now))) }
-    requires held { Held b.now k }
-    requires b_value { check_list b.now ≡ Ok tt }
-    requires from_le_k { (from ≤ k) × (k < to) × (to ≤ both_counts b.now) }
+    requires room { Room (entry_of pen) (at_of pen) (drawn later machine mingw dll.now (exports_from r.list.now from (to - from)) (export_at r.list.now r.index) (plan_public machine mingw (export_at r.list.now r.index) (some public.now))) }
+    requires b_value { check_list r.list.now ≡ Ok tt }
+    requires from_le_k { (from ≤ r.index) × (r.index < to) × (to ≤ both_counts r.list.now) }
     requires dll_len_bound { (length dll.now ≤ 255) × (length public.now ≤ 8189) }
-    requires resolved { (machine ≡ arm64ec → ⊥) → Resolved machine mingw b.now from (to - from) targets.now }
-    ensures { Drew out.old (entry_of pen) (at_of pen) (drawn later machine mingw dll.now (exports_from b.now from (to - from)) (export_at b.now k) (plan_public machine mingw (export_at b.now k) (some public.now))) out.new (entry_of result) (at_of result) }
+    requires resolved { (machine ≡ arm64ec → ⊥) → Resolved machine mingw r.list.now from (to - from) targets.now }
+    ensures { Drew out.old (entry_of pen) (at_of pen) (drawn later machine mingw dll.now (exports_from r.entry.list.now from (to - from)) (export_at r.entry.list.now r.entry.index) (plan_public machine mingw (export_at r.entry.list.now r.entry.index) (some public.now))) out.new (entry_of result) (at_of result) }
 {
-    if out.len() == 0 && is_direct(b, k, machine, public) {
+    if out.len() == 0 && is_direct(r, machine, public) {
         if later {
             return pen;
         }
         return draw_import(
             out,
             pen,
-            b,
-            k,
+            r,
             public,
             dll,
             ImportNameType::Name,
@@ -337,20 +303,18 @@ fn draw_named(
             machine,
         );
     }
-    match plan(b, k, machine, mingw, public) {
+    match plan(r, machine, mingw, public) {
         Ok(Some(short)) => {
             if later {
                 return pen;
             }
-            draw_final(out, pen, b, k, dll, short, public, machine)
+            draw_final(out, pen, r, dll, short, public, machine)
         }
         Ok(None) => {
             if !later {
                 return pen;
             }
-            draw_deferred(
-                out, pen, b, k, dll, public, machine, mingw, from, to, targets,
-            )
+            draw_deferred(out, pen, r, dll, public, machine, mingw, from, to, targets)
         }
         Err(_) => pen,
     }
@@ -361,8 +325,7 @@ fn draw_named(
 fn draw_record(
     out: &mut [u8],
     pen: u64,
-    b: &[u8],
-    k: u32,
+    r: Record,
     dll: &[u8],
     machine: u16,
     mingw: bool,
@@ -371,28 +334,26 @@ fn draw_record(
     later: bool,
     targets: &[u16],
 ) -> u64
-    requires room { Room (entry_of pen) (at_of pen) (record_members later machine mingw dll.now (exports_from b.now from (to - from)) b.now k) }
-    requires held { Held b.now k }
-    requires b_value { check_list b.now ≡ Ok tt }
-    requires from_le_k { (from ≤ k) × (k < to) × (to ≤ both_counts b.now) }
+    requires room { Room (entry_of pen) (at_of pen) (record_members later machine mingw dll.now (exports_from r.list.now from (to - from)) r.list.now r.index) }
+    requires b_value { check_list r.list.now ≡ Ok tt }
+    requires from_le_k { (from ≤ r.index) × (r.index < to) × (to ≤ both_counts r.list.now) }
     requires dll_len_bound { length dll.now ≤ 255 }
-    requires resolved { (machine ≡ arm64ec → ⊥) → Resolved machine mingw b.now from (to - from) targets.now }
-    ensures { Drew out.old (entry_of pen) (at_of pen) (record_members later machine mingw dll.now (exports_from b.now from (to - from)) b.now k) out.new (entry_of result) (at_of result) }
+    requires resolved { (machine ≡ arm64ec → ⊥) → Resolved machine mingw r.list.now from (to - from) targets.now }
+    ensures { Drew out.old (entry_of pen) (at_of pen) (record_members later machine mingw dll.now (exports_from r.entry.list.now from (to - from)) r.entry.list.now r.entry.index) out.new (entry_of result) (at_of result) }
 {
-    if later && record::absent(b, k, record::IMPORT_NAME) {
+    if later && r.import_name().is_none() {
         return pen;
     }
-    if record::is_private(b, k) {
+    if r.is_private() {
         return pen;
     }
-    if record::absent(b, k, record::EXT_NAME) {
+    let Some(ext_name) = r.ext_name() else {
         return draw_named(
             out,
             pen,
-            b,
-            k,
+            r,
             dll,
-            record::base(b, k),
+            r.base(),
             machine,
             mingw,
             from,
@@ -400,15 +361,14 @@ fn draw_record(
             later,
             targets,
         );
-    }
-    let Some(name) = public::renamed(b, k) else {
+    };
+    let Some(name) = public::renamed(r, ext_name) else {
         return pen;
     };
     draw_named(
         out,
         pen,
-        b,
-        k,
+        r,
         dll,
         name.as_slice(),
         machine,
@@ -442,9 +402,8 @@ fn draw_pass(
 {
     let mut next = pen;
     for k in from..to {
-        next = draw_record(
-            out, next, b, k, dll, machine, mingw, from, to, later, targets,
-        );
+        let r = Record { list: b, index: k };
+        next = draw_record(out, next, r, dll, machine, mingw, from, to, later, targets);
     }
     next
 }

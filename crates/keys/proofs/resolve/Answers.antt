@@ -10,8 +10,11 @@ pub returns-then-not-has_wanted : goal.returns-then-not-has_wanted
 returns-then-not-has_wanted c =
     (λ m. resolved-none _ _ _ _ _ _ _ _ (sym c.has_wanted.ensures ∙ c.if-not-has_wanted.true) (omega arith) (omega arith), λ j g. refl)
 
+pub invariant_of-run : goal.invariant_of-run
+invariant_of-run c = record { checked = c.requires.b_value; not_arm64ec = c.if-machine-eq-IMAGE_FILE_MACHINE_ARM64EC.false; within = c.requires.from_le_to }
+
 pub find_all-requires : goal.find_all-requires
-find_all-requires c = record { in_bounds = omega (arith, c.insert_all.auto.slots, c.requires.in_bounds); entered = c.insert_all.ensures; b_value = c.requires.b_value; not_arm64ec = c.if-machine-eq-IMAGE_FILE_MACHINE_ARM64EC.false; from_le_to = c.requires.from_le_to; b_in_bounds = c.requires.b_in_bounds }
+find_all-requires c = record { in_bounds = omega (arith, c.insert_all.auto.slots, c.requires.in_bounds); entered = c.insert_all.ensures; list_in_bounds = c.requires.b_in_bounds }
 
 pub returns : goal.returns
 returns c =

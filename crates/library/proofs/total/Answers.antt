@@ -11,10 +11,10 @@ returns-in_err-known c =
 
 pub total_accepted-requires : goal.total_accepted-requires
 total_accepted-requires c =
-    let (e, n, is) = accepted-by c.in_ok-known.was (c.accept.ensures c.args.whole_archive_compat) in
-    record { b_value = rw n e; machine = is }
+    let (e, n) = accepted-by c.in_ok-known.was (c.accept.ensures c.args.whole_archive_compat) in
+    rw n e
 
 pub returns : goal.returns
 returns c =
-    let (e, n, is) = accepted-by c.in_ok-known.was (c.accept.ensures c.args.whole_archive_compat) in
+    let (e, n) = accepted-by c.in_ok-known.was (c.accept.ensures c.args.whole_archive_compat) in
     asked-total _ _ e (rw n at c.total_accepted.ensures)

@@ -7,8 +7,8 @@ use Rattle.library.proofs.write.Goals as goal
 
 pub write_accepted-requires : goal.write_accepted-requires
 write_accepted-requires c =
-    let (e, n, is) = accepted-by c.in_ok-m.was (c.accept.ensures c.args.whole_archive_compat) in
-    record { b_value = rw n e; machine = is }
+    let (e, n) = accepted-by c.in_ok-m.was (c.accept.ensures c.args.whole_archive_compat) in
+    rw n e
 
 pub returns-in_err-m : goal.returns-in_err-m
 returns-in_err-m c =
@@ -17,5 +17,5 @@ returns-in_err-m c =
 
 pub returns : goal.returns
 returns c =
-    let (e, n, is) = accepted-by c.in_ok-m.was (c.accept.ensures c.args.whole_archive_compat) in
+    let (e, n) = accepted-by c.in_ok-m.was (c.accept.ensures c.args.whole_archive_compat) in
     rw n at c.write_accepted.ensures

@@ -27,7 +27,7 @@ returns c =
     let thunk_at = null_at + (length n + 1) in
     let t = c.put_descriptor_table-table.result in
     let at = c.put_descriptor_table-table.ensures.name_at_value in
-    let filled = parts-as (ap (λ (t : ℕ). descriptor_data t d) c.requires.machine.relocation) c.put_descriptor_data-c.ensures in
+    let filled = parts-as (ap (λ (t : ℕ). descriptor_data t d) c.args.machine.row.relocation) c.put_descriptor_data-c.ensures in
     let symbols = parts-as (ap (λ (i : ℕ). descriptor_symbols i t.null_at t.thunk_at) at.0
     ∙ ap (λ (i : ℕ). descriptor_symbols strings_at i t.thunk_at) (at.1 ∙ begins-second (descriptor_name k) (n ∷ thunk_name k ∷ []))
     ∙ ap (descriptor_symbols strings_at null_at) (at.2 ∙ begins-third (descriptor_name k) n (thunk_name k ∷ []))) c.put_descriptor_symbols.ensures in

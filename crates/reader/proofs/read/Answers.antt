@@ -2,7 +2,6 @@
 use mathlib.Core.Path.{sym, ap, ◌∙◌}
 use Rattle.format.specs.Reader.{ordinary}
 use Rattle.records.specs.declared.FileHeader.{FileHeader}
-use Rattle.reader.proofs.Admitting.{ordinary-known, ordinary-unknown}
 use Rattle.reader.proofs.Guessing.{answer-short, answer-object, read-barred, read-shorter}
 use Rattle.reader.proofs.read.Goals as goal
 
@@ -18,12 +17,12 @@ pub returns-in_default : goal.returns-in_default
 returns-in_default c =
     let e = ap (λ (h : FileHeader). h.machine) c.read-h.ensures in
     read-barred _ (λ z. c.if-h-eq0.false (e ∙ z))
-    (ap ordinary (sym e) ∙ ordinary-unknown _ (sym c.ordinary_machine.ensures ∙ c.in_default.is))
+    (ap ordinary (sym e) ∙ (rw c.in_default.is at c.ordinary_machine.ensures))
 
 pub read_object-requires : goal.read_object-requires
 read_object-requires c =
     let e = ap (λ (h : FileHeader). h.machine) c.read-h.ensures in
-    let k = ordinary-known _ _ (sym c.ordinary_machine.ensures ∙ c.in-Some.is) in
+    let k = rw c.in-Some.is at c.ordinary_machine.ensures in
     record { ordinary = k.1; first = k.0 ∙ e }
 
 pub returns : goal.returns

@@ -16,7 +16,7 @@ admits_dll-requires c = clear-as _ _ c.text-dll.ensures
 pub returns-then-not-admits_dll : goal.returns-then-not-admits_dll
 returns-then-not-admits_dll c =
     barred _ _
-    (descriptor-barred _ (ap ordinary (sym c.requires.first) ∙ c.requires.ordinary.ordinary) c.text-dll.ensures (sym c.admits_dll.ensures ∙ c.if-not-admits_dll.true))
+    (descriptor-barred _ (ap ordinary (sym c.requires.first) ∙ c.requires.ordinary) c.text-dll.ensures (sym c.admits_dll.ensures ∙ c.if-not-admits_dll.true))
 
 pub part-stem-requires : goal.part-stem-requires
 part-stem-requires c =

@@ -15,7 +15,7 @@ returns-then-same c =
 
 pub returns-then-name-prefix : goal.returns-then-name-prefix
 returns-then-name-prefix c =
-    null-barred _ c.requires.ordinary.ordinary c.requires.first c.text-name.ensures (sym c.same.ensures ∙ c.if-same.false)
+    null-barred _ c.requires.ordinary c.requires.first c.text-name.ensures (sym c.same.ensures ∙ c.if-same.false)
     (omega arith)
 
 pub as_null_descriptor_of-requires : goal.as_null_descriptor_of-requires

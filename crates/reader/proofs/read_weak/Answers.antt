@@ -18,7 +18,7 @@ returns-then-read-ne-IMAGE_SYM_ABSOLUTE c =
     unlike _ _ (λ e. c.if-read-ne-IMAGE_SYM_ABSOLUTE.true (ap (λ (s : Symbol). of_z w16 s.section_number) c.read.ensures ∙ ap (of_z w16) (weak-absolute b e)))
 
 pub as_weak-requires : goal.as_weak-requires
-as_weak-requires c = record { machine_value = c.requires.ordinary.ordinary; target_value = c.text-target.ensures; alias_value = c.text-alias.ensures }
+as_weak-requires c = record { machine_value = c.requires.ordinary; target_value = c.text-target.ensures; alias_value = c.text-alias.ensures }
 
 pub returns : goal.returns
 returns c =

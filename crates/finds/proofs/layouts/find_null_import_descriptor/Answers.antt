@@ -7,4 +7,4 @@ use Rattle.finds.proofs.layouts.find_null_import_descriptor.Goals as goal
 
 pub returns : goal.returns
 returns c =
-    found-as (c.part.ensures ∙ drawn-whole c.create_null_import_descriptor-n.ensures (bound-null c.args.machine.number c.args.compat c.args.stem.now c.requires.stem_len_bound)) c.find.ensures
+    found-as (c.part.ensures ∙ drawn-whole c.create_null_import_descriptor-n.ensures (bound-null c.args.machine.number c.args.compat c.args.stem.now c.requires)) c.find.ensures

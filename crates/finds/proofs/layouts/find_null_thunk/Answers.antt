@@ -7,4 +7,4 @@ use Rattle.finds.proofs.layouts.find_null_thunk.Goals as goal
 
 pub returns : goal.returns
 returns c =
-    found-as (c.part.ensures ∙ drawn-whole c.create_null_thunk-n.ensures (bound-thunk c.args.machine.number c.args.stem.now c.requires.stem_len_bound)) c.find.ensures
+    found-as (c.part.ensures ∙ drawn-whole c.create_null_thunk-n.ensures (bound-thunk c.args.machine.number c.args.stem.now c.requires)) c.find.ensures

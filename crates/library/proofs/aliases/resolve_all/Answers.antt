@@ -31,6 +31,6 @@ resolve-requires-2 c =
 
 pub returns : goal.returns
 returns c =
-    both-resolved _ _ _ c.first_machine-first.ensures.0 c.native_machine-native.ensures.0 c.u32_at-count.ensures
+    both-resolved _ _ _ c.first-first.ensures c.native-native.ensures c.u32_at-count.ensures
     (ap (λ (n : ℕ). c.u32_at-count.result + n) c.u32_at.ensures) c.resolve.ensures.0 c.resolve-2.ensures.0 c.resolve-2.ensures.1
     (omega (arith, c.resolve-2.auto.targets))

@@ -9,8 +9,8 @@ dll-requires c =
     let l = listed _ c.requires.b_value in record { header_size_in_bounds = l.shape.headed; dll_field_in_bounds = dll-inside _ l }
 
 pub draw_members-requires : goal.draw_members-requires
-draw_members-requires c = record { room = all-room _ _ c.first_machine-first.ensures.0 c.native_machine-native.ensures.0 c.dll.ensures c.requires.room; b_value = c.requires.b_value; machine = c.native_machine-native.ensures.1; dll_len_bound = dll-small _ c.requires.b_value c.dll.ensures; resolved_by = resolved-by _ c.first_machine-first.ensures.0 c.native_machine-native.ensures.0 c.requires.resolved_all }
+draw_members-requires c = record { room = all-room _ _ c.first-first.ensures c.native-native.ensures c.dll.ensures c.requires.room; b_value = c.requires.b_value; dll_len_bound = dll-small _ c.requires.b_value c.dll.ensures; resolved_by = resolved-by _ c.first-first.ensures c.native-native.ensures c.requires.resolved_all }
 
 pub returns : goal.returns
 returns c =
-    all-drew _ _ c.first_machine-first.ensures.0 c.native_machine-native.ensures.0 c.dll.ensures c.draw_members.ensures
+    all-drew _ _ c.first-first.ensures c.native-native.ensures c.dll.ensures c.draw_members.ensures

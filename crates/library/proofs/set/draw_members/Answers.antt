@@ -26,7 +26,7 @@ overflow_add-both c =
     let (f, n, _) = counts-small _ c.requires.b_value c.u32_at-count.ensures c.u32_at.ensures in omega arith
 
 pub draw_fixed-fixed-requires : goal.draw_fixed-fixed-requires
-draw_fixed-fixed-requires c = record { room = set-fixed _ _ _ _ _ _ c.requires.room; machine = c.requires.machine; dll_len_bound = (c.requires.dll_len_bound, stem-part c.part-stem.ensures c.stem.ensures) }
+draw_fixed-fixed-requires c = record { room = set-fixed _ _ _ _ _ _ c.requires.room; dll_len_bound = (c.requires.dll_len_bound, stem-part c.part-stem.ensures c.stem.ensures) }
 
 pub draw_list-firsts-requires : goal.draw_list-firsts-requires
 draw_list-firsts-requires c =

@@ -5,7 +5,7 @@ use Rattle.library.proofs.Resolving.{nothing-wanted}
 use Rattle.library.proofs.set.total_accepted.Goals as goal
 
 pub has_wanted-requires : goal.has_wanted-requires
-has_wanted-requires c = list-accepted _ _ c.requires.b_value
+has_wanted-requires c = list-accepted _ _ c.requires
 
 pub total_resolved-requires : goal.total_resolved-requires
-total_resolved-requires c = record { b_value = c.requires.b_value; machine = c.requires.machine; resolved_all = nothing-wanted _ _ _ _ (sym c.if-has_wanted.false ∙ c.has_wanted.ensures) }
+total_resolved-requires c = record { b_value = c.requires; resolved_all = nothing-wanted _ _ _ _ (sym c.if-has_wanted.false ∙ c.has_wanted.ensures) }

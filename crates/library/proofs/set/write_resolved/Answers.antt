@@ -27,7 +27,7 @@ returns-then-room-total c =
     in (rw c.at.ensures answer, after-nothing _ _ c.measure-size.ensures.0 ∙ left)
 
 pub draw_all-requires : goal.draw_all-requires
-draw_all-requires c = record { room = room-at c.pen_at-pen.ensures.0 (c.pen_at-pen.ensures.1 ∙ c.entry_of-first_at.ensures) (set-room _ _ (octets _ c.type_inv.b) c.requires.b_value c.measure-size.ensures.1); b_value = list-accepted _ _ c.requires.b_value; machine = c.requires.machine; resolved_all = c.requires.resolved_all }
+draw_all-requires c = record { room = room-at c.pen_at-pen.ensures.0 (c.pen_at-pen.ensures.1 ∙ c.entry_of-first_at.ensures) (set-room _ _ (octets _ c.type_inv.b) c.requires.b_value c.measure-size.ensures.1); b_value = list-accepted _ _ c.requires.b_value; resolved_all = c.requires.resolved_all }
 
 pub put_header-requires : goal.put_header-requires
 put_header-requires c =

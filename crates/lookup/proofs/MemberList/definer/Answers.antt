@@ -1,5 +1,4 @@
 -- `lookup::MemberList::definer` meets its contract.
-use native.Mathlib.Omega.{arith}
 use mathlib.Core.Bool.{true, false}
 use mathlib.Core.Path.{◌≡◌}
 use Rattle.std.proofs.Common.{rules}

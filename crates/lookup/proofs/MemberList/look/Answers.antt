@@ -1,9 +1,7 @@
 -- `lookup::MemberList::look` meets its contract.
-use Rattle.std.specs.Prelude.{Ok, Err}
-use Prim.Native.Nat.{◌-◌}
+use Rattle.std.specs.Prelude.{Err}
 use mathlib.Core.Path.{sym, ap, ◌∙◌}
 use native.Mathlib.Omega.{arith}
-use Rattle.format.specs.Lookup.{set_count}
 use Rattle.format.proofs.Rows.{passed-on}
 use Rattle.search.proofs.Searches.{place-at, place-nowhere}
 use Rattle.lookup.proofs.Refusing.{set-kept, set-refused}

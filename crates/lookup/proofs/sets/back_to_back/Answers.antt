@@ -1,7 +1,6 @@
 -- `lookup::sets::back_to_back` meets its contract.
 use mathlib.Core.Path.{sym, ◌∙◌}
-use native.Mathlib.Omega.{arith}
-use Rattle.lookup.proofs.Laying.{back-start, back-next, back-elsewhere, back-end}
+use Rattle.lookup.proofs.Laying.{back-next, back-elsewhere, back-end}
 use Rattle.lookup.proofs.sets.back_to_back.Goals as goal
 
 pub returns-then-offset_at-end : goal.returns-then-offset_at-end

@@ -1,5 +1,4 @@
 -- `lookup::symbols::may_define` meets its contract.
-use mathlib.Core.Bool.{true≢false}
 use mathlib.Core.Path.{sym, ap, ◌∙◌}
 use Rattle.records.specs.declared.FileHeader.{FileHeader}
 use Rattle.lookup.proofs.Defining.{may-short, may-weak}

@@ -7,8 +7,8 @@ use Rattle.plans.proofs.check.check_names.Goals as goal
 pub loop-k-init : goal.loop-k-init
 loop-k-init c = refl
 
-pub check_name-requires : goal.check_name-requires
-check_name-requires c = held _ _ c.requires.b_value (omega arith)
+pub invariant_of-check_name : goal.invariant_of-check_name
+invariant_of-check_name c = record { held = held _ _ c.requires.b_value (omega (arith, c.loop-k-test.true, c.requires.from_le_to.1)) }
 
 pub returns-in_err-check_name : goal.returns-in_err-check_name
 returns-in_err-check_name c =

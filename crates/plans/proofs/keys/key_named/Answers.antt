@@ -7,7 +7,7 @@ use Rattle.plans.proofs.keys.key_named.Goals as goal
 
 pub returns-in-Ok-Some : goal.returns-in-Ok-Some
 returns-in-Ok-Some c =
-    key-short _ _ _ _ _ _ _ c.requires.not_arm64ec (ap (planned _ _) (sym (c.in-Ok-Some.is ∙ ap Ok c.in-Ok-Some.field-0-is)) ∙ c.plan.ensures) c.gives.ensures
+    key-short _ _ _ _ _ _ _ c.requires (ap (planned _ _) (sym (c.in-Ok-Some.is ∙ ap Ok c.in-Ok-Some.field-0-is)) ∙ c.plan.ensures) c.gives.ensures
 
 pub returns-in-Ok-None : goal.returns-in-Ok-None
 returns-in-Ok-None c =

@@ -1,23 +1,24 @@
 -- `walks::walk::draw_alias_to` meets its contract.
-use mathlib.Core.Path.{sym, ap, ◌∙◌}
+use mathlib.Core.Path.{sym, ap}
 use Rattle.walks.proofs.Pens.{room-as, drew-as}
 use native.Mathlib.Omega.{arith}
 use lib.ListN.{length}
+use Rattle.lists.proofs.Records.{absent-is, string-is}
 use Rattle.names.proofs.Renamings.{name-few}
 use Rattle.plans.proofs.Publics.{base-length}
 use Rattle.walks.proofs.Records.{alias-of, target-base, target-there, target-built}
 use Rattle.walks.proofs.walk.draw_alias_to.Goals as goal
 
 pub draw_alias-requires : goal.draw_alias-requires
-draw_alias-requires c = record { room = room-as (sym (alias-of _ _ c.import_type-import_type.ensures (target-base _ _ (sym c.absent.ensures ∙ c.if-absent.true) c.base.ensures))) c.requires.room; target_len_bound = (omega (arith, ap length c.base.ensures, base-length _ _ c.requires.held.1), omega (arith, c.requires.public_len_bound)) }
+draw_alias-requires c = record { room = room-as (sym (alias-of _ _ c.import_type-import_type.ensures (target-base _ _ (absent-is _ _ c.ext_name.ensures c.in_default.is) c.base.ensures))) c.requires.room; target_len_bound = (omega (arith, ap length c.base.ensures, base-length _ _ c.args.other.held), omega (arith, c.requires.public_len_bound)) }
 
-pub returns-then-absent : goal.returns-then-absent
-returns-then-absent c =
-    drew-as (alias-of _ _ c.import_type-import_type.ensures (target-base _ _ (sym c.absent.ensures ∙ c.if-absent.true) c.base.ensures))
+pub returns-in_default : goal.returns-in_default
+returns-in_default c =
+    drew-as (alias-of _ _ c.import_type-import_type.ensures (target-base _ _ (absent-is _ _ c.ext_name.ensures c.in_default.is) c.base.ensures))
     c.draw_alias.ensures
 
 pub renamed-requires : goal.renamed-requires
-renamed-requires c = record { held = c.requires.held.1; has_ext_name = sym c.absent.ensures ∙ c.if-absent.false }
+renamed-requires c = string-is _ _ c.ext_name.ensures c.in-Some.is
 
 pub unwrap-name-requires : goal.unwrap-name-requires
 unwrap-name-requires c = target-there _ _ c.renamed.ensures c.requires.other_value

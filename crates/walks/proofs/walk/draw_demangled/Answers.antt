@@ -19,7 +19,7 @@ part-rest-requires c =
     omega (arith, dropped-some _ _ c.get_arm64ec_demangled_function_name.ensures (c.in-Some-Dropped.is ∙ ap Some c.in-Some-Dropped.field-0-is))
 
 pub draw_import-requires : goal.draw_import-requires
-draw_import-requires c = record { room = room-as (exporting _ _ _ _ _ (sym (ap (λ s. s ++ []) c.part-rest.ensures ∙ dropped-is _ _ c.get_arm64ec_demangled_function_name.ensures (c.in-Some-Dropped.is ∙ ap Some c.in-Some-Dropped.field-0-is)))) c.requires.room; held = c.requires.held; sym_len_bound = ((c.requires.sym_len_bound.0, c.requires.sym_len_bound.1), (omega (arith, c.requires.sym_len_bound.2, ap length c.part-rest.ensures, length-part-le c.args.public.now 1 (length c.args.public.now - 1)), omega arith)) }
+draw_import-requires c = record { room = room-as (exporting _ _ _ _ _ (sym (ap (λ s. s ++ []) c.part-rest.ensures ∙ dropped-is _ _ c.get_arm64ec_demangled_function_name.ensures (c.in-Some-Dropped.is ∙ ap Some c.in-Some-Dropped.field-0-is)))) c.requires.room; sym_len_bound = ((c.requires.sym_len_bound.0, c.requires.sym_len_bound.1), (omega (arith, c.requires.sym_len_bound.2, ap length c.part-rest.ensures, length-part-le c.args.public.now 1 (length c.args.public.now - 1)), omega arith)) }
 
 pub overflow_add-after : goal.overflow_add-after
 overflow_add-after c =
@@ -38,10 +38,10 @@ part-tail-requires c =
     omega (arith, cut-some _ _ c.get_arm64ec_demangled_function_name.ensures _ (c.in-Some-Cut.is ∙ ap Some c.in-Some-Cut.field-0-is))
 
 pub draw_import-requires-in-Some-Cut : goal.draw_import-requires-in-Some-Cut
-draw_import-requires-in-Some-Cut c = record { room = room-as (exporting _ _ _ _ _ (sym (ap₂ ◌++◌ c.part-head.ensures c.part-tail.ensures ∙ cut-is _ _ c.get_arm64ec_demangled_function_name.ensures _ (c.in-Some-Cut.is ∙ ap Some c.in-Some-Cut.field-0-is)))) c.requires.room; held = c.requires.held; sym_len_bound = ((c.requires.sym_len_bound.0, c.requires.sym_len_bound.1), (omega (arith, c.requires.sym_len_bound.2, ap length c.part-head.ensures, length-part-le c.args.public.now 0 c.in-Some-Cut.at, cut-some _ _ c.get_arm64ec_demangled_function_name.ensures _ (c.in-Some-Cut.is ∙ ap Some c.in-Some-Cut.field-0-is)), omega (arith, c.requires.sym_len_bound.2, ap length c.part-tail.ensures, length-part-le c.args.public.now (c.in-Some-Cut.at + 3) (length c.args.public.now - (c.in-Some-Cut.at + 3))))) }
+draw_import-requires-in-Some-Cut c = record { room = room-as (exporting _ _ _ _ _ (sym (ap₂ ◌++◌ c.part-head.ensures c.part-tail.ensures ∙ cut-is _ _ c.get_arm64ec_demangled_function_name.ensures _ (c.in-Some-Cut.is ∙ ap Some c.in-Some-Cut.field-0-is)))) c.requires.room; sym_len_bound = ((c.requires.sym_len_bound.0, c.requires.sym_len_bound.1), (omega (arith, c.requires.sym_len_bound.2, ap length c.part-head.ensures, length-part-le c.args.public.now 0 c.in-Some-Cut.at, cut-some _ _ c.get_arm64ec_demangled_function_name.ensures _ (c.in-Some-Cut.is ∙ ap Some c.in-Some-Cut.field-0-is)), omega (arith, c.requires.sym_len_bound.2, ap length c.part-tail.ensures, length-part-le c.args.public.now (c.in-Some-Cut.at + 3) (length c.args.public.now - (c.in-Some-Cut.at + 3))))) }
 
 pub draw_import-requires-in-None : goal.draw_import-requires-in-None
-draw_import-requires-in-None c = record { room = room-as (exporting _ _ _ _ _ (sym (fails-is _ _ c.get_arm64ec_demangled_function_name.ensures c.in-None.is))) c.requires.room; held = c.requires.held; sym_len_bound = ((c.requires.sym_len_bound.0, c.requires.sym_len_bound.1), (omega arith, omega arith)) }
+draw_import-requires-in-None c = record { room = room-as (exporting _ _ _ _ _ (sym (fails-is _ _ c.get_arm64ec_demangled_function_name.ensures c.in-None.is))) c.requires.room; sym_len_bound = ((c.requires.sym_len_bound.0, c.requires.sym_len_bound.1), (omega arith, omega arith)) }
 
 pub returns-in-Some-Dropped : goal.returns-in-Some-Dropped
 returns-in-Some-Dropped c =

@@ -1,0 +1,6 @@
+-- `lists::record::Record::is_noname` meets its contract.
+use Rattle.lists.proofs.Records.{bit-is}
+use Rattle.lists.proofs.record.Record.is_noname.Goals as goal
+
+pub returns : goal.returns
+returns c = rw (← c.flags.ensures) (bit-is _ 0)
