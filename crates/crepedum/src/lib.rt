@@ -9,11 +9,9 @@ ghost use Rattle.format.specs.Refusals.{check_exports};
 ghost use Rattle.format.specs.Answers.{asked};
 ghost use Rattle.crepedum.specs.Words.{reason_word, refusal_word, check_word, written_word, WritesWord};
 
+use crate::reading::NUMBER;
 use format::{Reason, Refusal};
 use keys::Row;
-
-// A refusal's number stands above 32 bits.
-const NUMBER: u64 = 4294967296;
 
 // A reason as one number: the paper's times 2^32.
 fn reason_word(reason: Reason) -> u64

@@ -10,6 +10,9 @@ use format::{Read, Reason, Span};
 // How many fields an answer has.
 const FIELDS: usize = 11;
 
+// A refusal's number stands above 32 bits.
+pub const NUMBER: u64 = 4294967296;
+
 // The refusal of fewer fields.
 pub const TOO_FEW: Reason = Reason::NoRoom;
 

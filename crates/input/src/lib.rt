@@ -8,6 +8,7 @@ use std::io;
 use std::io::Read;
 
 // Reads until the buffer is full or the input ends. Returns how many of the buffer's bytes came: the first ones that were left.
+// A `while`: it counts what came, and how much comes at a turn is the reader's to say.
 pub fn read_full<R: Read>(reader: &mut R, buf: &mut [u8]) -> io::Result<usize>
     ensures bound { IfOk result (λ n. n ≤ length buf.new) }
     ensures came { IfOk result (λ n. Consumes (R.remaining reader.old) (R.remaining reader.new) (take n buf.new)) }

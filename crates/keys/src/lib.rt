@@ -150,7 +150,8 @@ impl Run<'_> {
                 list: self.list,
                 index: s.record,
             };
-            if key_is(r, self.machine, self.mingw, key) {
+            let same = key_is(r, self.machine, self.mingw, key);
+            if same {
                 return Some(Spot::Used(at, s.record));
             }
         }

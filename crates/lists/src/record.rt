@@ -9,15 +9,15 @@ use crate::{DLL_FIELD, HEADER_SIZE, NAMES_AT, RECORD_SIZE};
 use coff::import::ImportType;
 
 // The fields of a record that are strings.
-const NAME: usize = 0;
+pub const NAME: usize = 0;
 
-const EXT_NAME: usize = 1;
+pub const EXT_NAME: usize = 1;
 
-const SYMBOL_NAME: usize = 2;
+pub const SYMBOL_NAME: usize = 2;
 
-const IMPORT_NAME: usize = 3;
+pub const IMPORT_NAME: usize = 3;
 
-const EXPORT_AS: usize = 4;
+pub const EXPORT_AS: usize = 4;
 
 // The bits of the flags.
 const NONAME: u16 = 1;
@@ -49,7 +49,7 @@ impl<'a> Record<'a> {
     }
 
     // One of its strings, if it is there.
-    fn string(self, f: usize) -> Option<&'a [u8]>
+    pub fn string(self, f: usize) -> Option<&'a [u8]>
         requires { f < 5 }
         ensures { string_of result ≡ string_at self.entry.list.now (field_at self.entry.index f) }
     {
@@ -110,7 +110,7 @@ impl<'a> Record<'a> {
         wire::u16_at(self.list, self.at() + ORDINAL_AT)
     }
 
-    fn flags(self) -> u16
+    pub fn flags(self) -> u16
         ensures { result ≡ (export_at self.entry.list.now self.entry.index).flags }
     {
         wire::u16_at(self.list, self.at() + FLAGS_AT)

@@ -91,7 +91,11 @@ impl MemberList<'_> {
     fn definer(self, symbol: &[u8]) -> Option<usize>
         ensures { result ≡ place_of (definer_from self.entry.set.bytes.now symbol.now self.entry.from (self.entry.to - self.entry.from)) }
     {
-        (self.from..self.to).find(|&i| symbols::bytes_define(self.set.member_at(i), symbol))
+        let i = (self.from..self.to).find(|&i| symbols::bytes_define(
+            self.set.member_at(i),
+            symbol,
+        ))?;
+        Some(i)
     }
 
     // Where the target of a weak external leads.

@@ -45,7 +45,7 @@ fn field(set: &[u8], at: usize) -> usize
 }
 
 // Where a member stands.
-fn offset_at(set: &[u8], i: usize) -> usize
+pub fn offset_at(set: &[u8], i: usize) -> usize
     requires { first_member_at (i + 1) ≤ length set.now }
     ensures { (result ≡ offset_at set.now i) × (result < 4294967296) }
 {
@@ -78,7 +78,7 @@ fn back_to_back(set: &[u8], at: usize, count: usize) -> bool
 }
 
 // Whether bytes are laid out as a member set.
-fn laid_out(set: &[u8]) -> bool
+pub fn laid_out(set: &[u8]) -> bool
     ensures { result ≡ laid_out set.now }
 {
     if set.len() < SET_HEADER_SIZE {
@@ -104,7 +104,7 @@ fn laid_out(set: &[u8]) -> bool
 // ---- the order of the members
 
 // Which place a member may take.
-fn rank(read: Read) -> u32
+pub fn rank(read: Read) -> u32
     ensures { result ≡ rank_read read }
 {
     match read {
@@ -145,7 +145,7 @@ pub fn read_ranked(member: &[u8], expected: u32) -> Result<Read, Refusal>
 #[derive(Clone, Copy)]
 pub struct MemberSet<'a> {
     pub bytes: &'a [u8],
-    ghost laid: { laid_out bytes.now ≡ true },
+    pub ghost laid: { laid_out bytes.now ≡ true },
 }
 
 impl<'a> MemberSet<'a> {

@@ -17,9 +17,9 @@ length-name n = length-take-le n.len n.bytes n.within
 pub fresh-length : {l : Bytes} → l ≡ replicate 8192 0 → length l ≡ 8192
 fresh-length e = ap length e ∙ length-replicate {A = ℕ} 8192 0
 
--- what was written from the start on is within the bytes, and is what the name holds
-pub wrote-within : {l b l' : Bytes} {n : ℕ} → length l ≡ 8192 → length b ≤ 8190 → Wrote l 0 b l' n → n ≤ length l'
-wrote-within e h w = omega (arith, wrote-next w (omega arith), wrote-length w)
+-- what was written from the start on is within the bytes, however much it is, and is what the name holds
+pub wrote-within : {l b l' : Bytes} {n : ℕ} → Wrote l 0 b l' n → n ≤ length l'
+wrote-within w = omega (arith, w.next, wrote-length w)
 
 pub built-wrote : {l b l' : Bytes} {n : ℕ} {k : n ≤ length l'} → length l ≡ 8192 → length b ≤ 8190 → Wrote l 0 b l' n
     → Built b (record { bytes = l'; len = n; within = k })

@@ -1,7 +1,7 @@
 -- Rows 1 to 14 by their parts: each answer by the facts that lead to it.
 use Rattle.std.specs.Prelude.{Result, Ok, Err}
 use Prim.Native.Nat.{ℕ, ◌+◌, ◌-◌}
-use mathlib.Core.Path.{◌≡◌, sym, ◌∙◌}
+use mathlib.Core.Path.{◌≡◌, sym, ap, ◌∙◌}
 use mathlib.Core.Bool.{true, false}
 use mathlib.Core.List.{List, ◌++◌}
 use native.Mathlib.Nat.{sub-zero}
@@ -10,7 +10,7 @@ use Rattle.wire.specs.Bytes.{Bytes}
 use Rattle.format.specs.Machines.{known, first_machine, native_machine}
 use Rattle.format.specs.Exports.{first_count, native_count}
 use Rattle.format.specs.Library.{Options}
-use Rattle.format.specs.Refusals.{refusal, Row, earliest, rows_from, machine_rows, list_rows, name_rows, export_rows, accept_rows, check_list, check_exports}
+use Rattle.format.specs.Refusals.{Checked, refusal, Row, earliest, rows_from, machine_rows, list_rows, name_rows, export_rows, accept_rows, check_list, check_exports}
 use Rattle.format.specs.declared.Reason.TheVariants.{UnknownMachine}
 use Rattle.format.specs.declared.Refusal.{Refusal}
 use Rattle.coff.specs.declared.machines.Machine.{Machine}
@@ -40,6 +40,11 @@ module _ (o : Options) (b : Bytes) where
 
   abbrev natives : ℕ → List Row
   natives = name_rows (native_machine o.machine) o.mingw b
+
+  -- what is said of the number of a machine is said of the number that it was found by
+  pub asked-by : {m : ℕ} {r : Checked} → m ≡ o.machine → r ≡ earliest (export_rows (record { machine = m; mingw = o.mingw; compat = o.compat }) b)
+      → r ≡ earliest (export_rows o b)
+  asked-by n e = e ∙ ap (λ (k : ℕ). earliest (export_rows (record { machine = k; mingw = o.mingw; compat = o.compat }) b)) n
 
   pub both-stop : (r : Refusal) (n : ℕ) → n ≡ first_count b → earliest (rows_from (name_rows (first_machine o.machine) o.mingw b) 0 (n - 0)) ≡ Err r
       → Err r ≡ earliest (export_rows o b)

@@ -137,7 +137,7 @@ pub exporting-none : (p : Bytes) → demangle p ≡ none → exporting p (demang
 unfolding exporting
 exporting-none p e = rw e
 
-exporting-some : (p x : Bytes) → demangle p ≡ some x → exporting p (demangle p) ≡ P.plain p 4 (get_or (demangle p) [])
+pub exporting-some : (p x : Bytes) → demangle p ≡ some x → exporting p (demangle p) ≡ P.plain p 4 (get_or (demangle p) [])
 unfolding exporting
 exporting-some p x e = rw e
 

@@ -36,7 +36,7 @@ public-base b k a = rw (string-none b (field_at k 1) a)
 pub ext_name-is : (b : Bytes) (k : ℕ) {x : Bytes} → some x ≡ string_at b (field_at k 1) → (absent_at b (field_at k 1) ≡ false) × (x ≡ bytes_at b (field_at k 1))
 ext_name-is b k e = string-there b (field_at k 1) (sym e)
 
-public-renamed : (b : Bytes) (k : ℕ) {s n x : Bytes} → some x ≡ string_at b (field_at k 1) → s ≡ base (export_at b k) → n ≡ (export_at b k).name
+pub public-renamed : (b : Bytes) (k : ℕ) {s n x : Bytes} → some x ≡ string_at b (field_at k 1) → s ≡ base (export_at b k) → n ≡ (export_at b k).name
     → replace s n x ≡ public_name (export_at b k)
 unfolding public_name renamed export_at
 public-renamed b k a e f = rw (← a, ← e, ← f) refl

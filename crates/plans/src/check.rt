@@ -71,8 +71,10 @@ pub fn accept(b: &[u8], machine: u32, mingw: bool) -> Result<Machine, Refusal>
     let Some(m) = Machine::find(machine) else {
         return Err(Reason::UnknownMachine.at(0));
     };
-    lists::check_list(b)?;
-    check_both(b, m, mingw)?;
+    let listed = lists::check_list(b);
+    listed?;
+    let named = check_both(b, m, mingw);
+    named?;
     Ok(m)
 }
 

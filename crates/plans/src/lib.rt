@@ -142,7 +142,8 @@ fn is_free(t: ImportNameType) -> bool
     ensures { result ≡ free (type_number t) }
 {
     match t {
-        ImportNameType::Ordinal | ImportNameType::NameExportas => false,
+        ImportNameType::Ordinal => false,
+        ImportNameType::NameExportas => false,
         ImportNameType::Name | ImportNameType::NameNoprefix | ImportNameType::NameUndecorate =>
             true,
     }

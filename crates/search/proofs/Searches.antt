@@ -120,6 +120,10 @@ find-skip p s (suc n) i full few inside = side (dec_le (length s) i) (λ h. find
     side (yes h) ih = ap (find_from p s) (before-end (get_or p 0 0) s i h)
     side (no h) ih = let k : i < length s = omega arith in one k (ih k) (eqb (get_or s i 0) (get_or p 0 0)) refl
 
+-- a byte is found among the first bytes of a text, or where they end
+pub before-taken : (c n : ℕ) (s : Bytes) {r : ℕ} → r ≡ length (before c (take n s)) → r ≤ n
+before-taken c n s e = omega (arith, e, length-before c (take n s), length-take n s)
+
 pub skip-inside : (c : ℕ) (s : Bytes) (i : ℕ) → i ≤ length s → i + length (before c (drop i s)) ≤ length s
 skip-inside c s i h = omega (arith, length-before c (drop i s), length-drop i s)
 

@@ -176,7 +176,7 @@ fn differs(t: &[u8], at: usize) -> usize
     1
 }
 
-// Goes through all cases.
+// Goes through all cases. A `while` over places, as `whole`: the cases differ in length, and `AllAgree` tells them by their places.
 pub fn go_through(t: &[u8]) -> Tally
     ensures { (result.written + result.refused ≡ result.cases) × (length t.now ≤ case_at t.now result.cases) × (result.differ ≡ 0 → AllAgree t.now result.cases) }
 {

@@ -5,7 +5,11 @@ use Rattle.plans.proofs.is_free.Goals as goal
 
 pub returns-in-Ordinal : goal.returns-in-Ordinal
 unfolding free
-returns-in-Ordinal c = ⊎_elim (λ e. rw e) (λ e. rw e) c.in-Ordinal.is
+returns-in-Ordinal c = rw c.in-Ordinal.is
+
+pub returns-in-NameExportas : goal.returns-in-NameExportas
+unfolding free
+returns-in-NameExportas c = rw c.in-NameExportas.is
 
 pub returns-in-Name : goal.returns-in-Name
 unfolding free

@@ -23,13 +23,13 @@ invariant_of-r c =
     let old = spot-old _ _ _ c.loop-d.d c.requires.h_value c.probe-at.ensures.0 c.get-s.ensures c.loop-d.invariant c.loop-d-test.true c.if-s-eq-FREE.false _ c.requires.within in
     record { held = held _ _ c.args.self.now.checked old }
 
-pub returns-then-key_is : goal.returns-then-key_is
-returns-then-key_is c =
-    spot-used _ _ _ c.loop-d.d c.requires.h_value c.probe-at.ensures.0 c.get-s.ensures c.loop-d.invariant c.loop-d-test.true c.if-s-eq-FREE.false c.if-s-h.false c.key_is.ensures c.if-key_is.true
+pub returns-then-same : goal.returns-then-same
+returns-then-same c =
+    spot-used _ _ _ c.loop-d.d c.requires.h_value c.probe-at.ensures.0 c.get-s.ensures c.loop-d.invariant c.loop-d-test.true c.if-s-eq-FREE.false c.if-s-h.false c.key_is-same.ensures c.if-same.true
 
 pub loop-d-preserved : goal.loop-d-preserved
 loop-d-preserved c =
-    spot-unlike _ _ _ c.loop-d.d c.requires.h_value c.probe-at.ensures.0 c.get-s.ensures c.loop-d.invariant c.loop-d-test.true c.if-s-eq-FREE.false c.if-s-h.false c.key_is.ensures c.if-key_is.false
+    spot-unlike _ _ _ c.loop-d.d c.requires.h_value c.probe-at.ensures.0 c.get-s.ensures c.loop-d.invariant c.loop-d-test.true c.if-s-eq-FREE.false c.if-s-h.false c.key_is-same.ensures c.if-same.false
 
 pub returns : goal.returns
 returns c =

@@ -11,7 +11,7 @@ lay-n-requires c =
 
 pub invariant_of-m : goal.invariant_of-m
 invariant_of-m c =
-    record { within = wrote-within (fresh-length c.fresh-m.ensures.1) (omega arith) (c.lay-at.ensures ⨾ c.lay-n.ensures) }
+    record { within = wrote-within (c.lay-at.ensures ⨾ c.lay-n.ensures) }
 
 pub returns : goal.returns
 returns c =

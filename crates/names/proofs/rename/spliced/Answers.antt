@@ -20,10 +20,7 @@ lay-n-requires c =
 
 pub invariant_of-m : goal.invariant_of-m
 invariant_of-m c =
-    record {
-      within =
-          wrote-within (fresh-length c.fresh-m.ensures.1) (splice-fits c.requires) (splice-wrote _ _ c.args.p c.lay-a.ensures c.lay-b.ensures c.lay-n.ensures);
-    }
+    record { within = wrote-within (c.lay-a.ensures ⨾ c.lay-b.ensures ⨾ c.lay-n.ensures) }
 
 pub returns : goal.returns
 returns c =
